@@ -2,6 +2,7 @@ mod ArrowLemmas
 mod DigraphLemmas
 mod PartLemmas
 mod ReadLemmas
+pub mod TypedLemmas
 mod StartLemmas
 mod FlowLemmas
 mod NowhereLemmas

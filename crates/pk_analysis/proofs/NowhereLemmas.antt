@@ -1,12 +1,13 @@
 -- An instruction that no run comes to is one that no run leaves.
-use Rattle.std.proofs.Common.{◌≡◌, ℕ, refl, ap, sym, ◌∙◌}
+use Rattle.std.proofs.Common.{◌≡◌, ℕ, zero, suc, ◌-◌, refl, ap, sym, ◌∙◌}
 use Rattle.std.specs.Prelude.{Bool, true, false, ℤ, pos, ◌-ℤ◌, List, [], ◌∷◌, Option, Some, None, if◌then◌else◌}
 use Rattle.pk_ctypes.specs.declared.types.Op.{Op}
 use Rattle.pk_ctypes.specs.declared.types.Op.TheVariants.{Add, Sub, Mul, Div, Rem, Shl, Shr, And, Or, Xor, Lt, Gt, Le, Ge, Eq, Ne, Neg, BitNot, Not}
-use Rattle.pk_graph.specs.Trees.{TreeOf, constant, variable, converted, unary, binary, InstrOf, Skip, Set, Havoc, Clear, Load, Store, Guard, Check}
-use Rattle.pk_value.specs.Known.{Known, any_of}
-use Rattle.pk_state.specs.Changes.{known_in}
-use Rattle.pk_state.specs.Layouts.{Layout, place_in}
+use Rattle.pk_graph.specs.Trees.{TreeOf, constant, variable, converted, unary, binary, ArrayOf, InstrOf, Skip, Set, Havoc, Clear, Load, Store, Guard, Check}
+use Rattle.pk_value.specs.Known.{Known, any_of, exactly}
+use Rattle.pk_value.specs.Values.{is_constant}
+use Rattle.pk_state.specs.Changes.{known_in, with_known}
+use Rattle.pk_state.specs.Layouts.{Layout, place_in, is_spread, slot_of}
 use Rattle.pk_state.specs.Facts.{Facts, Stated, joined}
 use Rattle.pk_state.specs.Reduced.{reduced}
 use Rattle.pk_transfer.specs.Linear.{Linear, difference, linear}
@@ -14,7 +15,7 @@ use Rattle.pk_transfer.specs.Assignments.{with_form_at, with_known_if}
 use Rattle.pk_transfer.specs.Trees.{tree_known}
 use Rattle.pk_transfer.specs.Guards.{Condition, condition_of, flipped, refined}
 use Rattle.pk_transfer.specs.Assumptions.{places_in, le_in, compared_in, with_operand, if_some, refined_in, holds_in}
-use Rattle.pk_transfer.specs.Transfers.{at_index, misses, applied, transferred}
+use Rattle.pk_transfer.specs.Transfers.{at_index, misses, may_be, may_be_below, stored_at, stored_below, known_each, forgotten_in, loaded, stored, applied, transferred}
 use Rattle.pk_analysis.specs.Flows.{stated}
 
 known_nowhere : (x : ℕ) (k : Option Known) → with_known_if None x k ≡ None
@@ -25,14 +26,6 @@ form_nowhere : (at : Option ℕ) (l : Option Linear) → with_form_at None at l 
 form_nowhere None l = refl
 form_nowhere (Some k) None = refl
 form_nowhere (Some k) (Some l) = refl
-
-index_nowhere : (n : ℕ) (k : Option Known) → at_index n k None ≡ None
-index_nowhere n None = refl
-index_nowhere n (Some k) = by (misses n k) None refl
-  where
-    by : (b : Bool) (f : Option Facts) → f ≡ None → (if b then None else f) ≡ None
-    by true f e = refl
-    by false f e = e
 
 places_nowhere : (ps : List ℕ) (c : ℤ) → places_in None ps c ≡ None
 places_nowhere [] c = refl
@@ -95,15 +88,40 @@ guard_nowhere y c =
     (tree_known (known_in None) c.left) (tree_known (known_in None) c.right)
     (compared_nowhere c.op (linear y.chosen (known_in None) c.left) (linear y.chosen (known_in None) c.right))
 
+each_nowhere : (y : Layout) (x : ℕ) (k : Known) (n : ℕ) → known_each y None x k n ≡ None
+each_nowhere y x k zero = refl
+each_nowhere y x k (suc i) = ap (λ (f : Option Facts). with_known f (slot_of y x (suc i)) k) (each_nowhere y x k i)
+
+below_nowhere : (y : Layout) (x : ℕ) (k v : Known) (n : ℕ) → stored_below y None x k v n ≡ None
+below_nowhere y x k v zero = refl
+below_nowhere y x k v (suc i) = by (below_nowhere y x k v i) (may_be k i)
+  where
+    by : stored_below y None x k v i ≡ None → (b : Bool) → (if b then stored_at (stored_below y None x k v i) (slot_of y x i) (is_constant k) v else stored_below y None x k v i) ≡ None
+    by none true = ap (λ (f : Option Facts). stored_at f (slot_of y x i) (is_constant k) v) none
+    by none false = none
+
+chosen_nowhere : (b : Bool) (f g : Option Facts) → f ≡ None → g ≡ None → (if b then f else g) ≡ None
+chosen_nowhere true f g e h = e
+chosen_nowhere false f g e h = h
+
+stored_nowhere : (y : Layout) (a : ArrayOf ℕ) (k : Known) (v : Option Known) → stored y None a k v ≡ None
+stored_nowhere y a k None = refl
+stored_nowhere y a k (Some v) =
+    chosen_nowhere (is_spread y a.variable) (if may_be_below k a.length then stored_below y None a.variable k v a.length else None) (stored_at None a.variable false v)
+    (chosen_nowhere (may_be_below k a.length) (stored_below y None a.variable k v a.length) None (below_nowhere y a.variable k v a.length) refl) refl
+
+index_nowhere : (n : ℕ) (o : Option Known) (f : Known → Option Facts) → ((k : Known) → f k ≡ None) → at_index n o f ≡ None
+index_nowhere n None f e = refl
+index_nowhere n (Some k) f e = chosen_nowhere (misses n k) None (f k) refl (e k)
+
 applied_nowhere : (y : Layout) (i : InstrOf ℕ) → applied y None i ≡ None
 applied_nowhere y Skip = refl
 applied_nowhere y (Set x e) = set_nowhere y x (linear y.chosen (known_in None) e) (tree_known (known_in None) e)
-applied_nowhere y (Havoc x t n) = set_nowhere y x None (Some (any_of t))
-applied_nowhere y (Clear a) = refl
-applied_nowhere y (Load x a s b i) =
-    ap (at_index a.length (tree_known (known_in None) i)) (set_nowhere y x None None) ∙ index_nowhere a.length (tree_known (known_in None) i)
-applied_nowhere y (Store a s b i e) =
-    ap (at_index a.length (tree_known (known_in None) i)) (known_nowhere a.variable None) ∙ index_nowhere a.length (tree_known (known_in None) i)
+applied_nowhere y (Havoc x t n) = chosen_nowhere (is_spread y x) (known_each y None x (any_of t) (n - 1)) (forgotten_in y None x (Some (any_of t))) (each_nowhere y x (any_of t) (n - 1)) (set_nowhere y x None (Some (any_of t)))
+applied_nowhere y (Clear a) =
+    chosen_nowhere (is_spread y a.variable) (known_each y None a.variable (exactly (pos 0)) (a.length - 1)) (with_known None a.variable (exactly (pos 0))) (each_nowhere y a.variable (exactly (pos 0)) (a.length - 1)) refl
+applied_nowhere y (Load x a s b i) = index_nowhere a.length (tree_known (known_in None) i) (λ k. forgotten_in y None x (loaded y None a k)) (λ k. set_nowhere y x None (loaded y None a k))
+applied_nowhere y (Store a s b i e) = index_nowhere a.length (tree_known (known_in None) i) (λ k. stored y None a k (tree_known (known_in None) e)) (λ k. stored_nowhere y a k (tree_known (known_in None) e))
 applied_nowhere y (Guard e b) = guard_nowhere y (condition_of e b)
 applied_nowhere y (Check s e) = guard_nowhere y (condition_of e true)
 

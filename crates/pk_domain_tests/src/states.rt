@@ -14,7 +14,7 @@ fn pair(alloc: Global) -> Result<Frame, AllocError>
 {
     let types = Vec::from_slice(alloc, &[IntType::Int, IntType::Int])?;
     let chosen = Vec::from_slice(alloc, &[0, 1])?;
-    Ok(Frame::new(types, chosen))
+    Ok(Frame::new(types, chosen, Vec::new(alloc)))
 }
 
 // The bounds of a variable; none where no run comes there.

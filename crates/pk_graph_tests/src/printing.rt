@@ -6,6 +6,7 @@ use pk_ctypes::{IntType, Name};
 use pk_graph::Graph;
 use pk_interval::{Interval, whole};
 use pk_state::{Frame, State};
+use pk_transfer::is_small;
 use pk_value::Value;
 use std::alloc::{AllocError, Global};
 
@@ -20,11 +21,17 @@ fn part(text: &mut String) -> Result<(), AllocError> {
 fn print_value(
     text: &mut String,
     name: &Name,
-    is_array: bool,
+    elements: Option<usize>,
     known: Value,
 ) -> Result<(), AllocError> {
     part(text)?;
-    let brackets = if is_array { "[]" } else { "" };
+    let brackets = if is_small(elements) {
+        "[0]"
+    } else if elements.is_some() {
+        "[]"
+    } else {
+        ""
+    };
     write!(
         text,
         "{name}{brackets} [{},{}] {}Z+{}",
@@ -33,7 +40,7 @@ fn print_value(
     Ok(())
 }
 
-// A variable, if it has a name.
+// A variable, if it has a name; of a small array the first element.
 fn print_variable(
     text: &mut String,
     graph: &Graph,
@@ -48,7 +55,7 @@ fn print_variable(
     };
     match graph.variables().get(x) {
         Some(variable) => match &variable.name {
-            Some(name) => print_value(text, name, variable.length.is_some(), known),
+            Some(name) => print_value(text, name, variable.length, known),
             None => Ok(()),
         },
         None => Ok(()),

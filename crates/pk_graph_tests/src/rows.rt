@@ -208,22 +208,34 @@ const ROWS: &str = "
 8: int x;assume(x>=0);assume(x<=10);assert(!x); -> x [0,0] 0Z+0
 8: int x;assume(x>=0);assume(x<=10);assert(x>20); -> unreachable
 8: int x;assume(x>=0);assume(x<=10);int y;assume(y>=0);assume(y<=10);assert(x+y<=4); -> x [0,4] 1Z+0, y [0,4] 1Z+0, x + y <= 4
-# arrays: a cell for all, to which a store is added; an index that misses
-8: int a[3]={4,6};int x=a[1]; -> a[] [0,6] 2Z+0, x [0,6] 2Z+0
-8: int a[3]={9,21};a[2]=3;int x=a[0]; -> a[] [0,21] 3Z+0, x [0,21] 3Z+0
-8: int a[3];int x=a[2]; -> a[] [-2147483648,2147483647] 1Z+0, x [-2147483648,2147483647] 1Z+0
-8: int a[3]={1};int x=a[3]; -> unreachable
-8: int a[3]={1};int x=a[-1]; -> unreachable
-8: int a[3]={1};int i;assume(i>=-4);assume(i<=7);int x=a[i]; -> a[] [0,1] 1Z+0, i [-4,7] 1Z+0, x [0,1] 1Z+0
-8: int a[3]={1};int i;assume(i>=3);assume(i<=7);int x=a[i]; -> unreachable
-8: int a[3]={1};int i;assume(i>=-4);assume(i<=7);a[i]=5; -> a[] [0,5] 1Z+0, i [-4,7] 1Z+0
-8: int a[3]={1};int i;assume(i>=-4);assume(i<=-1);a[i]=5; -> unreachable
-8: int a[2]={1};a[0]=1/0; -> unreachable
-8: int a[2]={1};int x;a[0]=x%3;x=a[1]; -> a[] [-2,2] 1Z+0, x [-2,2] 1Z+0
-8: unsigned char a[2]={1};int x;a[1]=x; -> a[] [0,255] 1Z+0, x [-2147483648,2147483647] 1Z+0
-8: unsigned char a[2]={7};a[0]=300;int x=a[1]; -> a[] [0,44] 1Z+0, x [0,44] 1Z+0
-8: int a[2]={1};int x;assume(x>=0);assume(x<=9);int y;assume(y>=0);assume(y<=9);assume(x<y);x=a[0]; -> a[] [0,1] 1Z+0, x [0,1] 1Z+0, y [1,9] 1Z+0
-8: int a[2]={1};int x;assume(x>=0);assume(x<=9);int y;assume(y>=0);assume(y<=9);assume(x<y);a[0]=x; -> a[] [0,8] 1Z+0, x [0,8] 1Z+0, y [1,9] 1Z+0, x - y <= -1
+# larger arrays: a value for all elements, to which a store is added; an index that misses
+8: int a[9]={4,6};int x=a[1]; -> a[] [0,6] 2Z+0, x [0,6] 2Z+0
+8: int a[9]={9,21};a[2]=3;int x=a[0]; -> a[] [0,21] 3Z+0, x [0,21] 3Z+0
+8: int a[9];int x=a[2]; -> a[] [-2147483648,2147483647] 1Z+0, x [-2147483648,2147483647] 1Z+0
+8: int a[9]={1};int x=a[9]; -> unreachable
+8: int a[9]={1};int x=a[-1]; -> unreachable
+8: int a[9]={1};int i;assume(i>=-4);assume(i<=7);int x=a[i]; -> a[] [0,1] 1Z+0, i [-4,7] 1Z+0, x [0,1] 1Z+0
+8: int a[9]={1};int i;assume(i>=9);assume(i<=12);int x=a[i]; -> unreachable
+8: int a[9]={1};int i;assume(i>=-4);assume(i<=7);a[i]=5; -> a[] [0,5] 1Z+0, i [-4,7] 1Z+0
+8: int a[9]={1};int i;assume(i>=-4);assume(i<=-1);a[i]=5; -> unreachable
+8: int a[9]={1};a[0]=1/0; -> unreachable
+8: int a[9]={1};int x;a[0]=x%3;x=a[1]; -> a[] [-2,2] 1Z+0, x [-2,2] 1Z+0
+8: unsigned char a[9]={1};int x;a[1]=x; -> a[] [0,255] 1Z+0, x [-2147483648,2147483647] 1Z+0
+8: unsigned char a[9]={7};a[0]=300;int x=a[1]; -> a[] [0,44] 1Z+0, x [0,44] 1Z+0
+8: int a[9]={1};int x;assume(x>=0);assume(x<=9);int y;assume(y>=0);assume(y<=9);assume(x<y);x=a[0]; -> a[] [0,1] 1Z+0, x [0,1] 1Z+0, y [1,9] 1Z+0
+8: int a[9]={1};int x;assume(x>=0);assume(x<=9);int y;assume(y>=0);assume(y<=9);assume(x<y);a[0]=x; -> a[] [0,8] 1Z+0, x [0,8] 1Z+0, y [1,9] 1Z+0, x - y <= -1
+# arrays of at most eight elements: a value for each, of which that of the first is printed
+8: int a[3]={4,6};int x=a[1]; -> a[0] [4,4] 0Z+4, x [6,6] 0Z+6
+8: int a[3]={9,21};a[2]=3;int x=a[2]; -> a[0] [9,9] 0Z+9, x [3,3] 0Z+3
+8: int a[8];a[7]=5;int x=a[7]; -> a[0] [-2147483648,2147483647] 1Z+0, x [5,5] 0Z+5
+8: int a[3]={1,7,9};int i;assume(i>=-4);assume(i<=1);int x=a[i]; -> a[0] [1,1] 0Z+1, i [-4,1] 1Z+0, x [1,7] 6Z+1
+8: int a[5]={1,2,3,4,5};int i;assume(i>=0);assume(i<=2);int x=a[2*i]; -> a[0] [1,1] 0Z+1, i [0,2] 1Z+0, x [1,5] 2Z+1
+8: int a[2]={1,5};int i;assume(i>=0);assume(i<=1);a[i]=7;int x=a[1]; -> a[0] [1,7] 6Z+1, i [0,1] 1Z+0, x [5,7] 2Z+1
+8: int a[2]={1,5};int i;assume(i>=1);assume(i<=4);a[i]=7;int x=a[0]; -> a[0] [1,1] 0Z+1, i [1,4] 1Z+0, x [1,1] 0Z+1
+8: int a[4]={1};int i;assume(i>=0);assume(i<=1);int x=a[8*i-1]; -> unreachable
+8: int a[4]={1};int i;assume(i>=0);assume(i<=1);a[8*i-1]=2; -> unreachable
+8: int a[1]={3};a[0]=4;int x=a[0]; -> a[0] [4,4] 0Z+4, x [4,4] 0Z+4
+8: int a[2]={3};int x=a[2]; -> unreachable
 # octagons: what intervals alone can't decide
 8: int x;assume(x>=0);assume(x<=10);int y;assume(y>=0);assume(y<=10);assume(x<y); -> x [0,9] 1Z+0, y [1,10] 1Z+0, x - y <= -1
 8: int x;assume(x>=0);assume(x<=10);int y;assume(y>=0);assume(y<=10);assume(x<y);assume(y<x); -> unreachable

@@ -2,7 +2,8 @@
 use Rattle.std.specs.Prelude.{◌≡◌, ℕ, ◌+◌, ◌*◌, ◌<◌, ◌≤◌, ◌^◌, List, length, map}
 use Rattle.std.proofs.Common.{ap, arith, refl, subst, sym, ◌∙◌}
 use Rattle.std.proofs.lemmas.List.{length-map}
-use Rattle.pk_graph.specs.Graphs.{EdgeOf, PointOf, GraphOf}
+use Rattle.pk_graph.specs.Graphs.{EdgeOf, PointOf, GraphOf, kinds_of}
+use Rattle.pk_transfer.specs.Slots.{slot_types}
 use Rattle.pk_graph.specs.Shown.{graph_view}
 use Rattle.pk_graph.specs.WellMade.{IsGraph}
 use Rattle.pk_graph.specs.OctagonVariables.{octagon_variables_of}
@@ -91,7 +92,7 @@ module _ (o : Options) (p : PlanView) (a : Flow) (order : Level) (system : IsSys
   ends : Ends (behaviour_of (equations_of a)) order
   ends =
       let g = graph_view a.graph in
-      let chain = chain_bound_of (length g.variables) (length a.thresholds) (length (octagon_variables_of g o.oct)) in
+      let chain = chain_bound_of (length (slot_types (kinds_of g))) (length a.thresholds) (length (octagon_variables_of g o.oct)) in
       (end g o p order a chain made few system (a.thresholds, system.analysis.thresholds, refl)).ends
 
   is_order : IsOrderOf (shape_of p) order

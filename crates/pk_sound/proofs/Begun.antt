@@ -1,11 +1,12 @@
 -- What is known where a run begins.
-use Rattle.std.specs.Prelude.{◌≡◌, ◌⊎◌, ℕ, zero, suc, ◌-◌, ◌<◌, ◌≤◌, nat_eq, nat_lt, Bool, true, false, if◌then◌else◌, ℤ, pos, [], ◌∷◌, ◌++◌, map, length, replicate, All, Some}
+use Rattle.std.specs.Prelude.{◌≡◌, ◌⊎◌, ℕ, zero, suc, ◌+◌, ◌-◌, ◌<◌, ◌≤◌, nat_eq, nat_lt, Bool, true, false, if◌then◌else◌, ℤ, pos, List, [], ◌∷◌, ◌++◌, map, slice_index_or, length, replicate, All, Some}
+use Rattle.std.specs.List.{flat_map, range_with_len}
 use Rattle.std.proofs.Common.{arith, refl, ap, sym, subst, ◌∙◌, inl, inr, length-append}
-use Rattle.std.proofs.Math.ListN.{get_or-map}
+use Rattle.std.proofs.Math.ListN.{get_or-map, get_or-append}
 use Rattle.std.proofs.lemmas.Int.{ints}
 use Rattle.std.proofs.lemmas.Bool.{cases_lt}
 use Rattle.std.proofs.lemmas.Bool.Decides.{nat_tests}
-use Rattle.std.proofs.lemmas.List.{length-map, length-replicate}
+use Rattle.std.proofs.lemmas.List.{length-map, length-replicate, get_or-append-add}
 use Rattle.std.proofs.lemmas.List as lists
 use Rattle.std.proofs.lemmas.List.Elements.{All-head, All-tail}
 use Rattle.pk_ctypes.specs.declared.types.IntType.{IntType}
@@ -15,7 +16,7 @@ use Rattle.pk_ctypes.proofs.Values.{cases_of_type}
 use Rattle.pk_congr.specs.Classes.{constant}
 use Rattle.pk_ctypes.proofs.Small.{both_true}
 use Rattle.pk_congr.proofs.Numbers.{rest_member}
-use Rattle.pk_graph.specs.Kinds.{Kind, kind_at, count_of, count_at}
+use Rattle.pk_graph.specs.Kinds.{Kind, no_kind, kind_at, count_of, count_at}
 use Rattle.pk_graph.specs.Graphs.{VariableOf, StartOf, any_start, number_start, GraphOf, no_variable, variable_at, kinds_of}
 use Rattle.pk_graph.specs.WellMade.{IsGraph, IsStartOf}
 use Rattle.pk_graph.specs.Steps.{Numbers, number_at, all_in_type}
@@ -26,19 +27,23 @@ use Rattle.pk_octmat.specs.Octagon.{octagon_of, top_bound}
 use Rattle.pk_octmat.proofs.Points.{top_holds}
 use Rattle.pk_octmat.proofs.Tabled.{octagon_entries}
 use Rattle.pk_octops.proofs.Sound.{meets_from}
-use Rattle.pk_state.specs.Layouts.{Layout, IsLayout, type_at, chosen_at}
+use Rattle.pk_state.specs.Layouts.{Layout, IsLayout, chosen_at, slot_of}
 use Rattle.pk_state.specs.Facts.{AreFacts, known_at}
 use Rattle.pk_state.specs.Members.{selected, Member}
 use Rattle.pk_state.specs.Changes.{IsValue}
 use Rattle.pk_state.proofs.Held.{values_from}
 use Rattle.pk_state.proofs.Tops.{top_stays, any_value}
+use Rattle.pk_transfer.specs.Slots.{is_small, further_count, further_types, slot_types, spread}
 use Rattle.pk_transfer.specs.Trees.{IsOver}
+use Rattle.pk_transfer.proofs.Slotting.{begin, begin_same, flat_at, further_length, small_is as small_counts, HasCounts, counts_of, IsSlot, own, further, slot_first, slot_further, slot_find, small_numbers, large_numbers}
+use Rattle.pk_transfer.proofs.Spreading.{scalar_counts}
 use Rattle.pk_transfer.proofs.Transferring.{any_is}
-use Rattle.pk_analysis.specs.Starts.{joined_with, known_of_numbers, known_of_start, start_known, start_facts}
+use Rattle.pk_analysis.specs.Starts.{joined_with, known_of_numbers, known_of_start, start_known, known_of_number, own_known, further_known, start_values, start_facts, AreTyped}
+use Rattle.pk_analysis.proofs.TypedLemmas.{typed_many, typed_at, typed_append}
 use Rattle.pk_sound.specs.Runs.{BeginsWith, Begins}
 use Rattle.pk_sound.proofs.Values_stay.{exactly_value}
 use Rattle.pk_sound.proofs.Facts_stay.{joined_value}
-use Rattle.pk_sound.proofs.Padding.{zero_of, past_at, pad, padded_each, some_padded, numbers_padded, kind_up, store_up, over_up}
+use Rattle.pk_sound.proofs.Padding.{zero_of, past_at, padded, pad, padded_each, some_padded, numbers_at, numbers_padded, kind_up, kinds_up, kind_at_up, small_up, further_up, store_up, over_up}
 
 -- ---- any numbers of a type
 
@@ -63,7 +68,7 @@ padded_at [] k i = zeros_at k i
 padded_at (n ∷ ns) k zero = refl
 padded_at (n ∷ ns) k (suc i) = padded_at ns k i
 
-given_in : (t : IntType) (ns : Numbers) (i : ℕ) → All (InType t) ns → InType t (number_at ns i)
+pub given_in : (t : IntType) (ns : Numbers) (i : ℕ) → All (InType t) ns → InType t (number_at ns i)
 given_in t [] i h = zero_of t
 given_in t (n ∷ ns) zero h = All-head (InType t) n ns h
 given_in t (n ∷ ns) (suc i) h = given_in t ns i (All-tail (InType t) n ns h)
@@ -111,6 +116,7 @@ record AreStart (x : VariableOf) (st : StartOf) (zs : Numbers) : Type 0 where
   fits : (i : ℕ) → i < length zs → InType x.kind.int_type (number_at zs i)
   known : (i : ℕ) → i < length zs → IsOf (known_of_start x st) (number_at zs i)
   none : zs ≡ [] → IsOf (known_of_start x st) (pos 0)
+  number : (i : ℕ) → IsOf (known_of_number x st i) (number_at zs i)
 
 same_count : (n m : ℕ) → nat_eq n m ≡ true → n ≡ m
 same_count n m h = grind (arith, nat_tests)
@@ -125,7 +131,12 @@ start_numbers x any_start zs h b =
       fits = λ i p. all_are t zs i both.1 p;
       known = λ i p. any_is t (number_at zs i) (all_are t zs i both.1 p);
       none = λ e. any_is t (pos 0) (zero_of t);
+      number = λ i. any_is t (number_at zs i) (any_at t zs i both.1 (cases_lt i (length zs)));
     }
+  where
+    any_at : (t : IntType) (zs : Numbers) (i : ℕ) → all_in_type t zs ≡ true → (i < length zs) ⊎ (length zs ≤ i) → InType t (number_at zs i)
+    any_at t zs i h (inl p) = all_are t zs i h p
+    any_at t zs i h (inr g) = subst (InType t) (sym (past_at zs i g)) (zero_of t)
 start_numbers x (number_start ns) zs h b =
     let n = count_of x.kind.length in
     let k = n - length ns in
@@ -136,6 +147,7 @@ start_numbers x (number_start ns) zs h b =
       fits = λ i p. subst (InType x.kind.int_type) (sym (at i)) (given_in x.kind.int_type ns i h.1);
       known = λ i p. subst (IsOf (known_of_numbers (nat_lt (length ns) n) ns)) (sym (at i)) (given_known (nat_lt (length ns) n) ns i (where_it_is i ns n (omega (arith, p, long)) (cases_lt i (length ns))));
       none = λ e. no_numbers (nat_lt (length ns) n) ns (let total = ap (λ (ys : Numbers). length ys) (sym b ∙ e) in omega (arith, total, length-append ns (replicate k (pos 0))));
+      number = λ i. subst (IsOf (exactly (number_at ns i))) (sym (at i)) (exactly_of (number_at ns i));
     }
   where
     no_numbers : (short : Bool) (ns : Numbers) → length ns ≡ 0 → IsOf (known_of_numbers short ns) (pos 0)
@@ -150,6 +162,48 @@ start_value : (x : VariableOf) (st : StartOf) → IsStartOf x st → IsValue x.k
 start_value x any_start h = any_value x.kind.int_type
 start_value x (number_start ns) h = given_value x.kind.int_type (nat_lt (length ns) (count_of x.kind.length)) ns h.1
 
+number_value : (x : VariableOf) (st : StartOf) (i : ℕ) → IsStartOf x st → IsValue x.kind.int_type (known_of_number x st i)
+number_value x any_start i h = any_value x.kind.int_type
+number_value x (number_start ns) i h = exactly_value x.kind.int_type (number_at ns i) (given_in x.kind.int_type ns i h.1)
+
+own_value : (x : VariableOf) → IsStartOf x x.start → IsValue x.kind.int_type (own_known x)
+own_value x h = by (is_small x.kind.length)
+  where
+    by : (b : Bool) → IsValue x.kind.int_type (if b then known_of_number x x.start 0 else start_known x)
+    by true = number_value x x.start 0 h
+    by false = start_value x x.start h
+
+range_many : (from n : ℕ) → length (range_with_len from n) ≡ n
+range_many from zero = refl
+range_many from (suc n) = ap suc (range_many (from + 1) n)
+
+range_at : (from n i : ℕ) → i < n → slice_index_or (range_with_len from n) i 0 ≡ from + i
+range_at from zero i h = absurd (omega (arith, h))
+range_at from (suc n) zero h = omega arith
+range_at from (suc n) (suc i) h = let later = range_at (from + 1) n i (omega (arith, h)) in omega (arith, later)
+
+pub further_many : (x : VariableOf) → length (further_known x) ≡ further_count x.kind.length
+further_many x = length-map (range_with_len 0 (further_count x.kind.length)) (λ i. known_of_number x x.start (suc i)) ∙ range_many 0 (further_count x.kind.length)
+
+further_at : (x : VariableOf) (i : ℕ) (d : Known) → i < further_count x.kind.length → slice_index_or (further_known x) i d ≡ known_of_number x x.start (suc i)
+further_at x i d h =
+    lists.get_or-map (λ i. known_of_number x x.start (suc i)) (range_with_len 0 (further_count x.kind.length)) i 0 d (omega (arith, h, range_many 0 (further_count x.kind.length)))
+    ∙ ap (λ j. known_of_number x x.start (suc j)) (range_at 0 (further_count x.kind.length) i h ∙ (let none : 0 + i ≡ i = omega arith in none))
+
+further_typed : (x : VariableOf) (from n : ℕ) → IsStartOf x x.start → AreTyped (map (λ i. known_of_number x x.start (suc i)) (range_with_len from n)) (replicate n x.kind.int_type)
+further_typed x from zero h = tt
+further_typed x from (suc n) h = (number_value x x.start (suc from) h, further_typed x (from + 1) n h)
+
+own_all : (xs : List VariableOf) → All (λ (x : VariableOf). IsStartOf x x.start) xs → AreTyped (map own_known xs) (map (λ (k : Kind). k.int_type) (map (λ (x : VariableOf). x.kind) xs))
+own_all [] h = tt
+own_all (x ∷ xs) h = (own_value x (All-head (λ (x : VariableOf). IsStartOf x x.start) x xs h), own_all xs (All-tail (λ (x : VariableOf). IsStartOf x x.start) x xs h))
+
+further_all : (xs : List VariableOf) → All (λ (x : VariableOf). IsStartOf x x.start) xs → AreTyped (flat_map further_known xs) (flat_map further_types (map (λ (x : VariableOf). x.kind) xs))
+further_all [] h = tt
+further_all (x ∷ xs) h =
+    typed_append (further_known x) (flat_map further_known xs) (further_types x.kind) (flat_map further_types (map (λ (x : VariableOf). x.kind) xs))
+    (further_typed x 0 (further_count x.kind.length) (All-head (λ (x : VariableOf). IsStartOf x x.start) x xs h)) (further_all xs (All-tail (λ (x : VariableOf). IsStartOf x x.start) x xs h))
+
 -- ---- all of them
 
 module _ (g : GraphOf) (l : Layout) (made : IsGraph g) (lay : IsLayout l) (over : IsOver (kinds_of g) l) where
@@ -162,17 +216,24 @@ module _ (g : GraphOf) (l : Layout) (made : IsGraph g) (lay : IsLayout l) (over 
   starts : (x : ℕ) → x < length g.variables → IsStartOf (variable_at g x) (variable_at g x).start
   starts x h = made.starts x no_variable h
 
-  type_is : (x : ℕ) → x < length g.variables → type_at l x ≡ (variable_at g x).kind.int_type
-  type_is x h = over.types x (omega (arith, h, many)) ∙ ap (λ (k : Kind). k.int_type) (kind_is x)
+  all_start : All (λ (x : VariableOf). IsStartOf x x.start) g.variables
+  all_start = λ k d h. made.starts k d h
 
-  known_is : (x : ℕ) → x < length g.variables → known_at (map start_known g.variables) x ≡ start_known (variable_at g x)
-  known_is x h = lists.get_or-map start_known g.variables x no_variable (any_of Int) h
+  typed : AreTyped (start_values g.variables) (slot_types (kinds_of g))
+  typed = typed_append (map own_known g.variables) (flat_map further_known g.variables) (map (λ (k : Kind). k.int_type) (kinds_of g)) (flat_map further_types (kinds_of g)) (own_all g.variables all_start) (further_all g.variables all_start)
+
+  all_many : length (start_values g.variables) ≡ length l.types
+  all_many = typed_many (start_values g.variables) (slot_types (kinds_of g)) typed ∙ ap (λ (ts : List IntType). length ts) (sym over.types)
+
+  own_is : (x : ℕ) → x < length g.variables → known_at (start_values g.variables) x ≡ own_known (variable_at g x)
+  own_is x h =
+      get_or-append (map own_known g.variables) (flat_map further_known g.variables) (any_of Int) x (omega (arith, h, length-map g.variables own_known))
+      ∙ lists.get_or-map own_known g.variables x no_variable (any_of Int) h
 
   pub start_stays : AreFacts l (start_facts g l)
   start_stays = record {
-    values = values_from l (map start_known g.variables) (omega (arith, length-map g.variables start_known, over.size, many))
-        (λ x p. let h : x < length g.variables = omega (arith, p, length-map g.variables start_known) in
-        subst (IsValue (type_at l x)) (sym (known_is x h)) (subst (λ (t : IntType). IsValue t (start_known (variable_at g x))) (sym (type_is x h)) (start_value (variable_at g x) (variable_at g x).start (starts x h))));
+    values = values_from l (start_values g.variables) all_many
+        (λ x p. subst (λ (ts : List IntType). IsValue (slice_index_or ts x Int) (known_at (start_values g.variables) x)) (sym over.types) (typed_at (start_values g.variables) (slot_types (kinds_of g)) x (any_of Int) Int typed p));
     vars = refl;
     octagon = (top_stays l lay).octagon;
   }
@@ -193,24 +254,80 @@ module _ (g : GraphOf) (l : Layout) (made : IsGraph g) (lay : IsLayout l) (over 
           subst (λ (k : Kind). InType k.int_type (number_at (numbers_of s x) i)) (sym (kind_is x)) ((numbers_are x h).fits i (omega (arith, q, counts_are x h)));
     }
 
+    wide : IsOver (kinds_up (kinds_of g)) l
+    wide = over_up (kinds_of g) l over
+
+    counted : HasCounts (kinds_up (kinds_of g)) (pad s)
+    counted = counts_of (kinds_up (kinds_of g)) (pad s) (store_up (kinds_of g) s start_store)
+
+    up_many : length (kinds_up (kinds_of g)) ≡ length g.variables
+    up_many = length-map (kinds_of g) kind_up ∙ many
+
+    small_is : (x : ℕ) → is_small (kind_at (kinds_up (kinds_of g)) x).length ≡ is_small (variable_at g x).kind.length
+    small_is x = ap (λ (k : Kind). is_small k.length) (kind_at_up (kinds_of g) x) ∙ small_up (kind_at (kinds_of g) x).length ∙ ap (λ (k : Kind). is_small k.length) (kind_is x)
+
+    abbrev HoldsAt : ℕ → Type 0
+    HoldsAt j = (0 < length (numbers_of (spread (pad s)) j)) × ((i : ℕ) → i < length (numbers_of (spread (pad s)) j) → IsOf (known_at (start_values g.variables) j) (number_at (numbers_of (spread (pad s)) j) i))
+
+    -- one number alone
+    alone : (j : ℕ) (z : ℤ) → numbers_of (spread (pad s)) j ≡ z ∷ [] → IsOf (known_at (start_values g.variables) j) z → HoldsAt j
+    alone j z e h =
+        subst (λ (ns : Numbers). (0 < length ns) × ((i : ℕ) → i < length ns → IsOf (known_at (start_values g.variables) j) (number_at ns i))) (sym e)
+        (omega arith, λ i p. let first : i ≡ 0 = omega (arith, p) in subst (λ n. IsOf (known_at (start_values g.variables) j) (number_at (z ∷ []) n)) (sym first) h)
+
+    choice : (x : VariableOf) (b : Bool) → is_small x.kind.length ≡ b → own_known x ≡ (if b then known_of_number x x.start 0 else start_known x)
+    choice x b e = ap (λ (c : Bool). if c then known_of_number x x.start 0 else start_known x) e
+
+    own_at : (x : ℕ) → x < length g.variables → (b : Bool) → is_small (variable_at g x).kind.length ≡ b → HoldsAt x
+    own_at x h true e =
+        let here : x < length (kinds_up (kinds_of g)) = omega (arith, h, up_many) in
+        let small = small_is x ∙ e in
+        let some : 0 < count_at (kinds_up (kinds_of g)) x = subst (λ (n : ℕ). 0 < n) (counted.1 x here) (subst (λ (zs : Numbers). 0 < length zs) (sym (numbers_padded s x (omega (arith, h, begins.size)))) (some_padded (numbers_of s x))) in
+        let first = slot_first (kinds_up (kinds_of g)) l wide x in
+        alone x (number_at (numbers_of s x) 0)
+        (ap (numbers_of (spread (pad s))) (sym first) ∙ small_numbers (kinds_up (kinds_of g)) l (pad s) wide counted x 0 here small some ∙ ap (λ (z : ℤ). z ∷ []) (numbers_at s x 0))
+        (subst (λ (k : Known). IsOf k (number_at (numbers_of s x) 0)) (sym (own_is x h ∙ choice (variable_at g x) true e)) ((numbers_are x h).number 0))
+    own_at x h false e =
+        let here : x < length (kinds_up (kinds_of g)) = omega (arith, h, up_many) in
+        let r = numbers_are x h in
+        let is = large_numbers (kinds_up (kinds_of g)) l (pad s) wide counted x here (small_is x ∙ e) ∙ numbers_padded s x (omega (arith, h, begins.size)) in
+        subst (λ (ns : Numbers). (0 < length ns) × ((i : ℕ) → i < length ns → IsOf (known_at (start_values g.variables) x) (number_at ns i))) (sym is)
+        (some_padded (numbers_of s x), λ i p. subst (λ (k : Known). IsOf k (number_at (padded (numbers_of s x)) i)) (sym (own_is x h ∙ choice (variable_at g x) false e)) (padded_each (IsOf (start_known (variable_at g x))) (numbers_of s x) i r.known r.none p))
+
+    further_lengths : (k : ℕ) → k < length (kinds_up (kinds_of g)) → length (further_types (slice_index_or (kinds_up (kinds_of g)) k no_kind)) ≡ length (further_known (slice_index_or g.variables k no_variable))
+    further_lengths k h =
+        further_length (kind_at (kinds_up (kinds_of g)) k) ∙ ap (λ (j : Kind). further_count j.length) (kind_at_up (kinds_of g) k) ∙ further_up (kind_at (kinds_of g) k).length
+        ∙ ap (λ (j : Kind). further_count j.length) (kind_is k) ∙ sym (further_many (variable_at g k))
+
+    further_is : (x i : ℕ) → x < length g.variables → is_small (kind_at (kinds_up (kinds_of g)) x).length ≡ true → suc i < count_at (kinds_up (kinds_of g)) x → known_at (start_values g.variables) (slot_of l x (suc i)) ≡ known_of_number (variable_at g x) (variable_at g x).start (suc i)
+    further_is x i h e p =
+        let ks = kinds_up (kinds_of g) in
+        let here : x < length ks = omega (arith, h, up_many) in
+        let many = length-map g.variables own_known in
+        let begins_at = begin_same further_types further_known ks g.variables no_kind no_variable up_many further_lengths x here in
+        let inside : i < length (further_known (variable_at g x)) = omega (arith, p, further_length (kind_at ks x), (small_counts (kind_at ks x).length e).0, further_lengths x here) in
+        let at : length ks + (begin further_types ks x + i) ≡ length (map own_known g.variables) + (begin further_known g.variables x + i) = omega (arith, many, up_many, begins_at) in
+        ap (known_at (start_values g.variables)) (slot_further ks l wide x i here e ∙ at)
+        ∙ get_or-append-add (map own_known g.variables) (flat_map further_known g.variables) (begin further_known g.variables x + i) (any_of Int)
+        ∙ flat_at further_known g.variables x i no_variable (any_of Int) h inside
+        ∙ further_at (variable_at g x) i (any_of Int) (omega (arith, inside, further_many (variable_at g x)))
+
+    at_slot : (j : ℕ) → IsSlot (kinds_up (kinds_of g)) l wide j → HoldsAt j
+    at_slot j (own h) = own_at j (omega (arith, h, up_many)) (is_small (variable_at g j).kind.length) refl
+    at_slot j (further x i h e p is) =
+        let there : x < length g.variables = omega (arith, h, up_many) in
+        subst HoldsAt (sym is)
+        (alone (slot_of l x (suc i)) (number_at (numbers_of s x) (suc i))
+        (small_numbers (kinds_up (kinds_of g)) l (pad s) wide counted x (suc i) h e p ∙ ap (λ (z : ℤ). z ∷ []) (numbers_at s x (suc i)))
+        (subst (λ (k : Known). IsOf k (number_at (numbers_of s x) (suc i))) (sym (further_is x i there e p)) ((numbers_are x there).number (suc i))))
+
+    holds : (j : ℕ) → j < length (start_values g.variables) → HoldsAt j
+    holds j p = at_slot j (slot_find (kinds_up (kinds_of g)) l wide j (omega (arith, p, all_many)))
+
     -- as if arrays without elements had one that is 0
-    pub start_member : Member l (Some (start_facts g l)) (pad s)
+    pub start_member : Member l (Some (start_facts g l)) (spread (pad s))
     start_member = record {
-      values = record {
-        each = λ x i p q.
-            let h : x < length g.variables = omega (arith, p, length-map g.variables start_known) in
-            let r = numbers_are x h in
-            let is = numbers_padded s x (omega (arith, h, begins.size)) in
-            subst (λ (k : Known). IsOf k (number_at (numbers_of (pad s) x) i)) (sym (known_is x h))
-            (subst (λ (zs : Numbers). IsOf (start_known (variable_at g x)) (number_at zs i)) (sym is)
-            (padded_each (IsOf (start_known (variable_at g x))) (numbers_of s x) i r.known r.none (subst (λ (zs : Numbers). i < length zs) is q)));
-        some = λ x p.
-            let h : x < length g.variables = omega (arith, p, length-map g.variables start_known) in
-            subst (λ (zs : Numbers). 0 < length zs) (sym (numbers_padded s x (omega (arith, h, begins.size)))) (some_padded (numbers_of s x));
-      };
-      scalars = λ k p.
-          let x = chosen_at l k in
-          let h : x < length (kinds_of g) = omega (arith, lay.there k p, over.size) in
-          (store_up (kinds_of g) s start_store).counts x (omega (arith, h, length-map (kinds_of g) kind_up)) ∙ ap count_of ((over_up (kinds_of g) l over).scalars k p);
-      octagon = meets_from (length l.chosen) top_bound (octagon_of (length l.chosen) top_bound) (selected l.chosen (pad s)) (octagon_entries (length l.chosen) top_bound) (λ i j id jd. top_holds (selected l.chosen (pad s)) i j);
+      values = record { each = λ x i p q. (holds x p).1 i q; some = λ x p. (holds x p).0 };
+      scalars = λ k p. scalar_counts (kinds_up (kinds_of g)) l (pad s) wide counted (chosen_at l k) (wide.scalars k p);
+      octagon = meets_from (length l.chosen) top_bound (octagon_of (length l.chosen) top_bound) (selected l.chosen (spread (pad s))) (octagon_entries (length l.chosen) top_bound) (λ i j id jd. top_holds (selected l.chosen (spread (pad s))) i j);
     }

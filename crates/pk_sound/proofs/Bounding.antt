@@ -32,6 +32,7 @@ use Rattle.pk_state.specs.Reduced.{reduced}
 use Rattle.pk_state.specs.Changes.{known_in, IsValue}
 use Rattle.pk_state.proofs.Held.{facts_stay}
 use Rattle.pk_state.proofs.Sound.{states_sound}
+use Rattle.pk_transfer.specs.Slots.{spread}
 use Rattle.pk_transfer.specs.Trees.{tree_known, IsOver}
 use Rattle.pk_transfer.specs.Transfers.{transferred}
 use Rattle.pk_verdict.specs.Verdicts.{safe_if, told_of, lies_in, excludes, result_verdict, ranged_verdict, operator_verdict, left_verdict, moved_verdict, shift_verdict, nothing_in, operation_verdict, verdict_of, IsTypedOperation}
@@ -114,7 +115,7 @@ result_lies t (Within r) z lo hi k few e =
     (subst (λ (l : ℤ). l ≤ℤ z) same.0 k.from, subst (λ (h : ℤ). z ≤ℤ h) same.1 k.to)
 result_lies t TooLarge z lo hi k few e = absurd (few refl)
 
-module _ (g : GraphOf) (p : ℕ) (ks : Kinds) (y : Layout) (f : Facts) (over : IsOver ks y) (lay : IsLayout y) (held : (s : Stored) → Reaches g p s → AreFactsIf y (Some f) × Member y (Some f) (pad s) × IsStore ks (pad s)) where
+module _ (g : GraphOf) (p : ℕ) (ks : Kinds) (y : Layout) (f : Facts) (over : IsOver ks y) (lay : IsLayout y) (held : (s : Stored) → Reaches g p s → AreFactsIf y (Some f) × Member y (Some f) (spread (pad s)) × IsStore ks (pad s)) where
   abbrev known : TreeOf ℕ → Option Known
   known e = tree_known (known_in (Some f)) e
 
@@ -255,12 +256,12 @@ families_bound g l known made_of solved access lo hi has v = by (reduced l (know
     made : IsAccess g access
     made = All-contains (IsAccess g) (accesses_of g) access (accesses_are g made_of.graph) has
 
-    held : (f : Option Facts) → reduced l (known access.point) ≡ f → (s : Stored) → Reaches g access.point s → AreFactsIf l f × Member l f (pad s) × IsStore (kinds_up (kinds_of g)) (pad s)
+    held : (f : Option Facts) → reduced l (known access.point) ≡ f → (s : Stored) → Reaches g access.point s → AreFactsIf l f × Member l f (spread (pad s)) × IsStore (kinds_up (kinds_of g)) (pad s)
     held f same s run =
         let at = reached g l known made_of solved access.point s run in
         let facts = solved.facts access.point at.point in (
           subst (AreFactsIf l) same (facts_stay.reductions l (known access.point) made_of.layout facts),
-          subst (λ (e : Option Facts). Member l e (pad s)) same (states_sound.kept l (known access.point) (pad s) made_of.layout facts at.member),
+          subst (λ (e : Option Facts). Member l e (spread (pad s))) same (states_sound.kept l (known access.point) (spread (pad s)) made_of.layout facts at.member),
           store_up (kinds_of g) s at.store,
         )
 

@@ -1,8 +1,8 @@
 -- Of a layout's facts an instruction makes facts of the layout.
-use Rattle.std.specs.Prelude.{◌≡◌, ℕ, zero, suc, ◌<◌, ◌*◌, ◌/◌, ◌^◌, Bool, true, false, if◌then◌else◌, ℤ, pos, ◌+ℤ◌, ◌-ℤ◌, ◌≤ℤ◌, int_le, unsigned_abs, List, [], ◌∷◌, length, Option, Some, None, IfSome}
+use Rattle.std.specs.Prelude.{◌≡◌, ℕ, zero, suc, ◌-◌, ◌<◌, ◌*◌, ◌/◌, ◌^◌, Bool, true, false, if◌then◌else◌, ℤ, pos, ◌+ℤ◌, ◌-ℤ◌, ◌≤ℤ◌, int_le, unsigned_abs, List, [], ◌∷◌, length, Option, Some, None, IfSome}
 use Rattle.std.specs.Ordering.{int_eq}
 use Rattle.std.specs.Int.{int_min, int_max}
-use Rattle.std.proofs.Common.{arith, refl, sym, subst, inr, ◌∙◌}
+use Rattle.std.proofs.Common.{arith, refl, ap, sym, subst, inr, ◌∙◌}
 use Rattle.std.proofs.lemmas.Int.{ints, clamps}
 use Rattle.pk_ctypes.specs.declared.types.IntType.{IntType}
 use Rattle.pk_ctypes.specs.declared.types.Op.{Op}
@@ -18,13 +18,14 @@ use Rattle.pk_congr.proofs.Numbers.{test_held, rest_of_some, tested_some}
 use Rattle.pk_congr.proofs.Meets.{lcm_by_left, some_abs}
 use Rattle.pk_congr.proofs.Gcd.{gcd_left}
 use Rattle.pk_congr.proofs.Solutions.{part_some}
-use Rattle.pk_graph.specs.Trees.{TreeOf, constant, variable, converted, unary, binary, InstrOf, Skip, Set, Havoc, Clear, Load, Store, Guard, Check}
-use Rattle.pk_graph.specs.Kinds.{Kinds, type_of, IsTyped, IsTypedInstr}
+use Rattle.pk_graph.specs.Trees.{TreeOf, constant, variable, converted, unary, binary, ArrayOf, InstrOf, Skip, Set, Havoc, Clear, Load, Store, Guard, Check}
+use Rattle.pk_graph.specs.Kinds.{Kinds, count_of, count_at, type_of, IsArray, IsTyped, IsTypedInstr}
+use Rattle.pk_graph.specs.Kinds as kinds
 use Rattle.pk_value.specs.Known.{Known, any_of, exactly, joined}
-use Rattle.pk_state.specs.Layouts.{Layout, type_at, place_in}
+use Rattle.pk_state.specs.Layouts.{Layout, type_at, place_in, is_spread, slot_of}
 use Rattle.pk_state.specs.Facts.{Facts, AreFactsIf}
 use Rattle.pk_state.specs.Reduced.{reduced, with_range}
-use Rattle.pk_state.specs.Changes.{known_in, IsValue}
+use Rattle.pk_state.specs.Changes.{known_in, with_known, IsValue}
 use Rattle.pk_state.proofs.Changed.{changes_stay}
 use Rattle.pk_state.proofs.Held.{facts_stay}
 use Rattle.pk_octops.specs.Laws.{IsTerm}
@@ -33,7 +34,8 @@ use Rattle.pk_transfer.specs.Linear.{Linear, linear, difference, HasPlaces, AreP
 use Rattle.pk_transfer.specs.Guards.{flipped, condition_of, Condition, with_both, at_most, at_least, other_than, refined}
 use Rattle.pk_transfer.specs.Assignments.{term_of, with_form, with_form_at, with_known_if, set_in}
 use Rattle.pk_transfer.specs.Assumptions.{places_in, le_in, compared_in, with_operand, if_some, refined_in, holds_in, guard_in}
-use Rattle.pk_transfer.specs.Transfers.{misses, at_index, forgotten_in, joined_if, applied}
+use Rattle.pk_transfer.specs.Transfers.{misses, at_index, may_be, may_be_below, either, known_below, stored_at, stored_below, known_each, forgotten_in, loaded, stored, applied}
+use Rattle.pk_transfer.proofs.Slotting.{own_there, own_type, slot_there, slot_type}
 use Rattle.pk_transfer.proofs.Told.{in_wider}
 use Rattle.pk_transfer.proofs.Over.{tree_over, fits_over}
 use Rattle.pk_transfer.proofs.Apart.{place_below, tree_places, differences_guards}
@@ -182,24 +184,90 @@ set_stays y f x e a h t w =
     (form_at_stays y f x (linear y.chosen (known_in f) e) a (tree_places y.chosen (known_in f) e)) h
     (wider_value (type_at y x) (type_of (kinds_of y) e) (tree_known (known_in f) e) w (tree_stays y f e a t))
 
+chosen_stays : (y : Layout) (b : Bool) (f g : Option Facts) → AreFactsIf y f → AreFactsIf y g → AreFactsIf y (if b then f else g)
+chosen_stays y true f g a h = a
+chosen_stays y false f g a h = h
+
 forgotten_stays : (y : Layout) (f : Option Facts) (x : ℕ) (o : Option Known) → AreFactsIf y f → x < length y.types → IfSome o (IsValue (type_at y x)) → AreFactsIf y (forgotten_in y f x o)
 forgotten_stays y f x o a h i = written_stays y (with_form_at f (place_in y.chosen x) None) x o (form_at_stays y f x None a tt) h i
 
-index_stays : (y : Layout) (n : ℕ) (o : Option Known) (f : Option Facts) → AreFactsIf y f → AreFactsIf y (at_index n o f)
+index_stays : (y : Layout) (n : ℕ) (o : Option Known) (f : Known → Option Facts) → ((k : Known) → AreFactsIf y (f k)) → AreFactsIf y (at_index n o f)
 index_stays y n None f a = tt
-index_stays y n (Some k) f a = by (misses n k)
-  where
-    by : (b : Bool) → AreFactsIf y (if b then None else f)
-    by true = tt
-    by false = a
+index_stays y n (Some k) f a = chosen_stays y (misses n k) None (f k) tt (a k)
 
 pub joined_value : (t : IntType) (a b : Known) → IsValue t a → IsValue t b → IsValue t (joined a b)
 joined_value t a b h k = record { inside = stays.joins t a.range b.range h.inside k.inside; some = omega (arith, ints, clamps, h.some, k.some); class = if_reduced (int_gcd (int_gcd a.class.m b.class.m) (a.class.r -ℤ b.class.r)) a.class.r (omega (arith, ints)) }
 
-joined_stays : (t : IntType) (o p : Option Known) → IfSome o (IsValue t) → IfSome p (IsValue t) → IfSome (joined_if o p) (IsValue t)
-joined_stays t None p h k = tt
-joined_stays t (Some a) None h k = tt
-joined_stays t (Some a) (Some b) h k = joined_value t a b h k
+-- ---- slots
+
+each_stays : (ks : Kinds) (y : Layout) (f : Option Facts) (x : ℕ) (k : Known) (m : ℕ) → IsOver ks y → AreFactsIf y f → x < length ks → IsValue (kinds.type_at ks x) k → ((i : ℕ) → i < m → suc i < count_at ks x) → AreFactsIf y (known_each y f x k m)
+each_stays ks y f x k zero over a h v inside = changes_stay.written y f x k a (own_there ks y over x h) (subst (λ (t : IntType). IsValue t k) (sym (own_type ks y over x h)) v)
+each_stays ks y f x k (suc m) over a h v inside =
+    let here = inside m (omega arith) in
+    changes_stay.written y (known_each y f x k m) (slot_of y x (suc m)) k (each_stays ks y f x k m over a h v (λ i p. inside i (omega (arith, p)))) (slot_there ks y over x (suc m) h here)
+    (subst (λ (t : IntType). IsValue t k) (sym (slot_type ks y over x (suc m) h here)) v)
+
+less_one : (n i : ℕ) → i < n - 1 → suc i < n
+less_one n i h = omega (arith, h)
+
+either_stays : (t : IntType) (o p : Option Known) → IfSome o (IsValue t) → IfSome p (IsValue t) → IfSome (either o p) (IsValue t)
+either_stays t None p h k = k
+either_stays t (Some a) None h k = h
+either_stays t (Some a) (Some b) h k = joined_value t a b h k
+
+below_value : (ks : Kinds) (y : Layout) (f : Option Facts) (x : ℕ) (k : Known) (n : ℕ) → IsOver ks y → AreFactsIf y f → x < length ks → ((i : ℕ) → i < n → i < count_at ks x) → IfSome (known_below y f x k n) (IsValue (kinds.type_at ks x))
+below_value ks y f x k zero over a h inside = tt
+below_value ks y f x k (suc n) over a h inside = by (below_value ks y f x k n over a h (λ i p. inside i (omega (arith, p)))) (may_be k n)
+  where
+    there : slot_of y x n < length y.types
+    there = slot_there ks y over x n h (inside n (omega arith))
+
+    one : IfSome (known_in f (slot_of y x n)) (IsValue (kinds.type_at ks x))
+    one = subst (λ (t : IntType). IfSome (known_in f (slot_of y x n)) (IsValue t)) (slot_type ks y over x n h (inside n (omega arith))) (variable_value y f (slot_of y x n) a there)
+
+    by : IfSome (known_below y f x k n) (IsValue (kinds.type_at ks x)) → (b : Bool) → IfSome (if b then either (known_below y f x k n) (known_in f (slot_of y x n)) else known_below y f x k n) (IsValue (kinds.type_at ks x))
+    by before true = either_stays (kinds.type_at ks x) (known_below y f x k n) (known_in f (slot_of y x n)) before one
+    by before false = before
+
+loaded_value : (ks : Kinds) (y : Layout) (f : Option Facts) (r : ArrayOf ℕ) (k : Known) → IsOver ks y → AreFactsIf y f → IsArray ks r → IfSome (loaded y f r k) (IsValue (kinds.type_at ks r.variable))
+loaded_value ks y f r k over a h = by (is_spread y r.variable)
+  where
+    count : count_at ks r.variable ≡ r.length
+    count = ap count_of h.array
+
+    by : (b : Bool) → IfSome (if b then known_below y f r.variable k r.length else known_in f r.variable) (IsValue (kinds.type_at ks r.variable))
+    by true = below_value ks y f r.variable k r.length over a h.there (λ i p. omega (arith, p, count))
+    by false = subst (λ (t : IntType). IfSome (known_in f r.variable) (IsValue t)) (own_type ks y over r.variable h.there) (variable_value y f r.variable a (own_there ks y over r.variable h.there))
+
+stored_stays : (y : Layout) (f : Option Facts) (j : ℕ) (surely : Bool) (v : Known) → AreFactsIf y f → j < length y.types → IsValue (type_at y j) v → AreFactsIf y (stored_at f j surely v)
+stored_stays y f j surely v a h w =
+    written_stays y f j (known_with (known_in f j) (λ k. Some (if surely then v else joined k v))) a h (one (known_in f j) (variable_value y f j a h))
+  where
+    some_of : (b : Bool) (k : Known) → IsValue (type_at y j) k → IsValue (type_at y j) (if b then v else joined k v)
+    some_of true k i = w
+    some_of false k i = joined_value (type_at y j) k v i w
+
+    one : (o : Option Known) → IfSome o (IsValue (type_at y j)) → IfSome (known_with o (λ k. Some (if surely then v else joined k v))) (IsValue (type_at y j))
+    one None i = tt
+    one (Some k) i = some_of surely k i
+
+below_stays : (ks : Kinds) (y : Layout) (f : Option Facts) (x : ℕ) (k v : Known) (n : ℕ) → IsOver ks y → AreFactsIf y f → x < length ks → IsValue (kinds.type_at ks x) v → ((i : ℕ) → i < n → i < count_at ks x) → AreFactsIf y (stored_below y f x k v n)
+below_stays ks y f x k v zero over a h w inside = a
+below_stays ks y f x k v (suc n) over a h w inside = by (below_stays ks y f x k v n over a h w (λ i p. inside i (omega (arith, p)))) (may_be k n)
+  where
+    by : AreFactsIf y (stored_below y f x k v n) → (b : Bool) → AreFactsIf y (if b then stored_at (stored_below y f x k v n) (slot_of y x n) (is_constant k) v else stored_below y f x k v n)
+    by before true =
+        stored_stays y (stored_below y f x k v n) (slot_of y x n) (is_constant k) v before (slot_there ks y over x n h (inside n (omega arith)))
+        (subst (λ (t : IntType). IsValue t v) (sym (slot_type ks y over x n h (inside n (omega arith)))) w)
+    by before false = before
+
+array_stays : (ks : Kinds) (y : Layout) (f : Option Facts) (r : ArrayOf ℕ) (k : Known) (o : Option Known) → IsOver ks y → AreFactsIf y f → IsArray ks r → IfSome o (IsValue (kinds.type_at ks r.variable)) → AreFactsIf y (stored y f r k o)
+array_stays ks y f r k None over a h w = tt
+array_stays ks y f r k (Some v) over a h w =
+    let count : count_at ks r.variable ≡ r.length = ap count_of h.array in
+    chosen_stays y (is_spread y r.variable) (if may_be_below k r.length then stored_below y f r.variable k v r.length else None) (stored_at f r.variable false v)
+    (chosen_stays y (may_be_below k r.length) (stored_below y f r.variable k v r.length) None (below_stays ks y f r.variable k v r.length over a h.there w (λ i p. omega (arith, p, count))) tt)
+    (stored_stays y f r.variable false v a (own_there ks y over r.variable h.there) (subst (λ (t : IntType). IsValue t v) (sym (own_type ks y over r.variable h.there)) w))
 
 -- ---- guards
 
@@ -243,7 +311,7 @@ with_stays t None f h g = tt
 with_stays t (Some k) f h g = g k h
 
 there_in : (ks : Kinds) (y : Layout) (x : ℕ) → IsOver ks y → x < length ks → x < length y.types
-there_in ks y x o h = omega (arith, h, o.size)
+there_in ks y x o h = own_there ks y o x h
 
 operand_stays : (ks : Kinds) (y : Layout) (f : Option Facts) (e : TreeOf ℕ) (op : Op) (u : IntType) (v : Known) → IsOver ks y → AreFactsIf y f → IsTyped ks e → IsValue u v → AreFactsIf y (with_operand f e op v)
 operand_stays ks y f (constant t n) op u v o a h i = a
@@ -282,21 +350,26 @@ applied_by : (ks : Kinds) (y : Layout) (f : Option Facts) (i : InstrOf ℕ) → 
 applied_by ks y f Skip over a h = a
 applied_by ks y f (Set x e) over a h = set_stays y f x e a (there_in ks y x over h.0.there) (tree_over ks y e over h.1.typed) (fits_over ks y x e over h.0.there h.1)
 applied_by ks y f (Havoc x t n) over a h =
-    forgotten_stays y f x (Some (any_of t)) a (there_in ks y x over h.0) (subst (λ (u : IntType). IsValue u (any_of t)) (sym (over.types x h.0 ∙ h.1)) (any_value t))
+    let value : IsValue (kinds.type_at ks x) (any_of t) = subst (λ (u : IntType). IsValue u (any_of t)) (sym h.1) (any_value t) in
+    chosen_stays y (is_spread y x) (known_each y f x (any_of t) (n - 1)) (forgotten_in y f x (Some (any_of t)))
+    (each_stays ks y f x (any_of t) (n - 1) over a h.0 value (λ i p. subst (λ (m : ℕ). suc i < m) (sym h.2) (less_one n i p)))
+    (forgotten_stays y f x (Some (any_of t)) a (there_in ks y x over h.0) (subst (λ (u : IntType). IsValue u (any_of t)) (sym (own_type ks y over x h.0)) value))
 applied_by ks y f (Clear r) over a h =
-    let zero = zero_in (type_at y r.variable) in
-    changes_stay.written y f r.variable (exactly (pos 0)) a (there_in ks y r.variable over h.there) (exactly_value (type_at y r.variable) (pos 0) (record { from = zero.0; to = zero.1 }))
+    let zero = zero_in (kinds.type_at ks r.variable) in
+    let value : IsValue (kinds.type_at ks r.variable) (exactly (pos 0)) = exactly_value (kinds.type_at ks r.variable) (pos 0) (record { from = zero.0; to = zero.1 }) in
+    let count : count_at ks r.variable ≡ r.length = ap count_of h.array in
+    chosen_stays y (is_spread y r.variable) (known_each y f r.variable (exactly (pos 0)) (r.length - 1)) (with_known f r.variable (exactly (pos 0)))
+    (each_stays ks y f r.variable (exactly (pos 0)) (r.length - 1) over a h.there value (λ i p. subst (λ (m : ℕ). suc i < m) (sym count) (less_one r.length i p)))
+    (changes_stay.written y f r.variable (exactly (pos 0)) a (there_in ks y r.variable over h.there) (subst (λ (u : IntType). IsValue u (exactly (pos 0))) (sym (own_type ks y over r.variable h.there)) value))
 applied_by ks y f (Load x r s b i) over a h =
-    let from = there_in ks y r.variable over h.1.there in
-    let same : type_at y r.variable ≡ type_at y x = over.types r.variable h.1.there ∙ sym h.2 ∙ sym (over.types x h.0.there) in
-    index_stays y r.length (tree_known (known_in f) i) (forgotten_in y f x (known_in f r.variable))
-    (forgotten_stays y f x (known_in f r.variable) a (there_in ks y x over h.0.there) (subst (λ (t : IntType). IfSome (known_in f r.variable) (IsValue t)) same (variable_value y f r.variable a from)))
+    let same : kinds.type_at ks r.variable ≡ type_at y x = sym h.2 ∙ sym (own_type ks y over x h.0.there) in
+    index_stays y r.length (tree_known (known_in f) i) (λ k. forgotten_in y f x (loaded y f r k))
+    (λ k. forgotten_stays y f x (loaded y f r k) a (there_in ks y x over h.0.there) (subst (λ (t : IntType). IfSome (loaded y f r k) (IsValue t)) same (loaded_value ks y f r k over a h.1)))
 applied_by ks y f (Store r s b i e) over a h =
-    let here = there_in ks y r.variable over h.0.there in
-    index_stays y r.length (tree_known (known_in f) i) (with_known_if f r.variable (joined_if (known_in f r.variable) (tree_known (known_in f) e)))
-    (written_stays y f r.variable (joined_if (known_in f r.variable) (tree_known (known_in f) e)) a here
-    (joined_stays (type_at y r.variable) (known_in f r.variable) (tree_known (known_in f) e) (variable_value y f r.variable a here)
-    (wider_value (type_at y r.variable) (type_of (kinds_of y) e) (tree_known (known_in f) e) (fits_over ks y r.variable e over h.0.there h.2) (tree_stays y f e a (tree_over ks y e over h.2.typed)))))
+    let same = own_type ks y over r.variable h.0.there in
+    let given = subst (λ (t : IntType). IfSome (tree_known (known_in f) e) (IsValue t)) same
+    (wider_value (type_at y r.variable) (type_of (kinds_of y) e) (tree_known (known_in f) e) (fits_over ks y r.variable e over h.0.there h.2) (tree_stays y f e a (tree_over ks y e over h.2.typed))) in
+    index_stays y r.length (tree_known (known_in f) i) (λ k. stored y f r k (tree_known (known_in f) e)) (λ k. array_stays ks y f r k (tree_known (known_in f) e) over a h.0 given)
 applied_by ks y f (Guard e b) over a h = guard_stays ks y f e b over a h
 applied_by ks y f (Check s e) over a h = guard_stays ks y f e true over a h
 

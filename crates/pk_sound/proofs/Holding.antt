@@ -1,28 +1,30 @@
 -- No run leaves a solved family, and so none the result.
-use Rattle.std.proofs.Common.{◌≡◌, ◌<◌, inl, inr, ℕ, zero, suc, ap, ◌∙◌, sym, subst, refl, Option, Some, None, List, [], ◌∷◌, map, length, slice_get, slice_index_or, All, Contains, arith}
+use Rattle.std.proofs.Common.{◌≡◌, ◌<◌, inl, inr, ℕ, zero, suc, ap, ◌∙◌, sym, subst, refl, Option, Some, None, Bool, true, false, List, [], ◌∷◌, map, length, slice_get, slice_index_or, All, Contains, arith}
 use Rattle.std.proofs.Math.ListN.{get_or-map}
 use Rattle.std.proofs.lemmas.List.{get_or_default, length-map}
 use Rattle.std.proofs.lemmas.List.Elements.{All-head, All-tail, All-map}
 use Rattle.pk_ctypes.specs.Laws.{ValuesLieInTheirType}
 use Rattle.pk_graph.specs.Graphs.{VariableOf, EdgeOf, GraphOf, no_variable, variable_at, no_point, point_at, kinds_of}
-use Rattle.pk_graph.specs.Kinds.{Kind, Kinds, kind_at, count_of}
+use Rattle.pk_graph.specs.Kinds.{Kind, Kinds, kind_at, count_of, count_at}
 use Rattle.pk_graph.specs.Trees.{InstrOf}
 use Rattle.pk_graph.specs.WellMade.{IsGraph, IsEdgeOf}
-use Rattle.pk_graph.specs.Steps.{Numbers, To, effect}
+use Rattle.pk_graph.specs.Steps.{Numbers, number_at, To, effect}
 use Rattle.pk_graph.specs.Stores.{Stored, storing, numbers_of, IsStore}
 use Rattle.pk_octmat.specs.Octagon.{entry}
 use Rattle.pk_value.specs.Known.{IsOf}
 use Rattle.pk_linear.proofs.ListLemmas.{contains_none, contains_cases}
 use Rattle.pk_value.proofs.Sound.{value_in}
-use Rattle.pk_state.specs.Layouts.{Layout, IsLayout, chosen_at}
+use Rattle.pk_state.specs.Layouts.{Layout, IsLayout, chosen_at, slot_of}
 use Rattle.pk_state.specs.Facts.{Facts, known_at, AreFactsIf, joined}
 use Rattle.pk_state.specs.Members.{number_if, selected, Member}
 use Rattle.pk_state.specs.Reduced.{reduced}
 use Rattle.pk_state.proofs.Held.{facts_stay}
 use Rattle.pk_state.proofs.Sound.{states_sound}
-use Rattle.pk_state.proofs.Changed.{meets_same}
+use Rattle.pk_state.proofs.Changed.{chosen_is, meets_same}
 use Rattle.pk_graph_step.proofs.KeptLemmas.{steps_keep}
+use Rattle.pk_transfer.specs.Slots.{is_small, spread}
 use Rattle.pk_transfer.specs.Trees.{IsOver}
+use Rattle.pk_transfer.proofs.Slotting.{HasCounts, counts_of, slot_there, slot_large, small_numbers, large_numbers, own_numbers, first_kept}
 use Rattle.pk_transfer.specs.Transfers.{transferred}
 use Rattle.pk_transfer.proofs.Keeping.{transferred_keeps}
 use Rattle.pk_transfer.proofs.Layouting.{graphs_over}
@@ -30,7 +32,7 @@ use Rattle.pk_analysis.specs.declared.arrows.Arrow.{Arrow}
 use Rattle.pk_analysis.specs.Arrows.{arrows_at, origins, no_edge, instr_of}
 use Rattle.pk_analysis.specs.Starts.{start_facts}
 use Rattle.pk_sound.specs.Runs.{HasElements, Begins, Reaches, begins, steps}
-use Rattle.pk_sound.proofs.Padding.{pad, pad_same, numbers_at, numbers_longer, kinds_up, store_up, over_up, step_pad}
+use Rattle.pk_sound.proofs.Padding.{padded, pad, pad_same, numbers_at, numbers_longer, kind_up, kinds_up, store_up, over_up, step_pad}
 use Rattle.pk_sound.proofs.Arrows_at.{IsArrowTo, arrows_to, has_arrow, arrow_over}
 use Rattle.pk_sound.proofs.Begun.{start_stays, start_store, start_member}
 use Rattle.pk_sound.proofs.Facts_at.{start_at_stays, equation_stays}
@@ -77,7 +79,7 @@ module _ (g : GraphOf) (l : Layout) (made : IsGraph g) (lay : IsLayout l) (over 
       ]
 
   -- a step over an edge
-  stepped : (v : ℕ) (s t : Stored) (r : Arrow) (i : InstrOf ℕ) (chosen : Numbers) → instr_of g r ≡ i → IsArrowTo g v r → IsStore (kinds_of g) s → Member l (known r.from) (pad s) → effect storing chosen i s ≡ To t → Member l (passed r) (pad t)
+  stepped : (v : ℕ) (s t : Stored) (r : Arrow) (i : InstrOf ℕ) (chosen : Numbers) → instr_of g r ≡ i → IsArrowTo g v r → IsStore (kinds_of g) s → Member l (known r.from) (spread (pad s)) → effect storing chosen i s ≡ To t → Member l (passed r) (spread (pad t))
   stepped v s t r i chosen is h st m e =
       let f = known r.from in
       let a = facts r.from h.point in
@@ -86,7 +88,7 @@ module _ (g : GraphOf) (l : Layout) (made : IsGraph g) (lay : IsLayout l) (over 
       let step = step_pad (kinds_of g) (instr_of g r) chosen s t (edge_made r h.point h.edge).typed st (subst (λ (j : InstrOf ℕ). effect storing chosen j s ≡ To t) (sym is) e) in
       let same = step.same l (reduced l f) in
       let kept = transferred_keeps l f step.instr lay a (subst (AreFactsIf l) (sym same) after) in
-      subst (λ (x : Option Facts). Member l (reduced l x) (pad t)) same
+      subst (λ (x : Option Facts). Member l (reduced l x) (spread (pad t))) same
       (kept (kinds_up (kinds_of g)) (pad s) (pad t) step.chosen (over_up (kinds_of g) l over) (store_up (kinds_of g) s st) m step.typed step.goes)
 
 pub values_lie : ValuesLieInTheirType
@@ -96,7 +98,7 @@ values_lie = λ op t x y z h k e. value_in op t x y z e
 pub record IsAt (g : GraphOf) (l : Layout) (known : ℕ → Option Facts) (v : ℕ) (s : Stored) : Type 0 where
   pub point : v < length g.points
   pub store : IsStore (kinds_of g) s
-  pub member : Member l (known v) (pad s)
+  pub member : Member l (known v) (spread (pad s))
 
 -- the points where these begin
 origins_inside : (g : GraphOf) (v : ℕ) → All (λ u. u < length g.points) (origins (arrows_at g v))
@@ -130,8 +132,8 @@ module _ (g : GraphOf) (l : Layout) (known : ℕ → Option Facts) (laid_out : I
     point = made.entry;
     store = start_store g l made lay over s b;
     member =
-        from_given 0 (pad s) made.entry
-        (arrived_from g l made lay over known facts_at 0 (pad s) (arrows_at g 0) (Some (start_facts g l)) (arrows_to g 0) (start_stays g l made lay over) (start_member g l made lay over s b));
+        from_given 0 (spread (pad s)) made.entry
+        (arrived_from g l made lay over known facts_at 0 (spread (pad s)) (arrows_at g 0) (Some (start_facts g l)) (arrows_to g 0) (start_stays g l made lay over) (start_member g l made lay over s b));
   }
 
   gone : (p : ℕ) (s t : Stored) (e : EdgeOf) (chosen : Numbers) → Contains (point_at g p).edges e → effect storing chosen e.instr s ≡ To t → IsAt g l known p s → IsAt g l known e.to t
@@ -145,8 +147,8 @@ module _ (g : GraphOf) (l : Layout) (known : ℕ → Option Facts) (laid_out : I
         point = edge.leads_to_a_point;
         store = steps_keep values_lie (kinds_of g) e.instr chosen s t edge.typed at.store goes;
         member =
-            from_given e.to (pad t) edge.leads_to_a_point
-            (arrived_by g l made lay over known facts_at e.to (pad t) r (arrows_at g e.to) (start_at g l e.to) (arrows_to g e.to) (start_at_stays g l made lay over e.to)
+            from_given e.to (spread (pad t)) edge.leads_to_a_point
+            (arrived_by g l made lay over known facts_at e.to (spread (pad t)) r (arrows_at g e.to) (start_at g l e.to) (arrows_to g e.to) (start_at_stays g l made lay over e.to)
             (has_arrow g e.to p has.0 at.point has.1 (ap (λ (x : EdgeOf). x.to) is)) member);
       }
 
@@ -156,23 +158,59 @@ module _ (g : GraphOf) (l : Layout) (known : ℕ → Option Facts) (laid_out : I
 
 -- ---- without the elements that arrays don't have
 
-number_same : (s : Stored) (o : Option ℕ) → number_if (pad s) o ≡ number_if s o
-number_same s None = refl
-number_same s (Some x) = numbers_at s x 0
-
 -- a variable with numbers is one of the store's
 some_below : (s : Stored) (x : ℕ) → 0 < length (numbers_of s x) → x < length s
 some_below [] x h = absurd (omega (h, arith))
 some_below (n ∷ s) zero h = omega arith
 some_below (n ∷ s) (suc x) h = let l = some_below s x h in omega (l, arith)
 
-agrees : (ks : Kinds) (l : Layout) (f : Option Facts) (s : Stored) → IsLayout l → IsOver ks l → IsStore ks s → AreFactsIf l f → Member l f (pad s) → Agrees l f s
-agrees ks l None s lay over st h m = m
-agrees ks l (Some f) s lay over st h m = record {
-  values = λ x i q. subst (IsOf (known_at f.values x)) (numbers_at s x i) (m.values.each x i (omega (arith, some_below s x (omega (arith, q)), st.size, over.size, h.values.size)) (omega (arith, q, numbers_longer s x)));
-  scalars = λ k p. st.counts (chosen_at l k) (omega (arith, lay.there k p, over.size)) ∙ ap count_of (over.scalars k p);
-  octagon = meets_same (entry f.octagon) (selected l.chosen (pad s)) (selected l.chosen s) (λ k. number_same s (slice_get l.chosen k)) m.octagon;
-}
+module _ (ks : Kinds) (l : Layout) (f : Facts) (s : Stored) (lay : IsLayout l) (over : IsOver ks l) (st : IsStore ks s) (h : AreFactsIf l (Some f)) (m : Member l (Some f) (spread (pad s))) where
+  wide : IsOver (kinds_up ks) l
+  wide = over_up ks l over
+
+  counted : HasCounts (kinds_up ks) (pad s)
+  counted = counts_of (kinds_up ks) (pad s) (store_up ks s st)
+
+  -- a number of the padded store is one that is known of its slot
+  padded_of : (x i : ℕ) → x < length (kinds_up ks) → i < length (numbers_of (pad s) x) → IsOf (known_at f.values (slot_of l x i)) (number_at (numbers_of (pad s) x) i)
+  padded_of x i here q = by (is_small (kind_at (kinds_up ks) x).length) refl
+    where
+      inside : i < count_at (kinds_up ks) x
+      inside = omega (arith, q, counted.1 x here)
+
+      there : slot_of l x i < length f.values
+      there = omega (arith, slot_there (kinds_up ks) l wide x i here inside, h.values.size)
+
+      by : (b : Bool) → is_small (kind_at (kinds_up ks) x).length ≡ b → IsOf (known_at f.values (slot_of l x i)) (number_at (numbers_of (pad s) x) i)
+      by true e =
+          subst (λ (ns : Numbers). 0 < length ns → IsOf (known_at f.values (slot_of l x i)) (number_at ns 0)) (small_numbers (kinds_up ks) l (pad s) wide counted x i here e inside)
+          (m.values.each (slot_of l x i) 0 there) (omega arith)
+      by false e =
+          let own = slot_large (kinds_up ks) l wide x i here e in
+          subst (λ j. IsOf (known_at f.values j) (number_at (numbers_of (pad s) x) i)) (sym own)
+          (subst (λ (ns : Numbers). i < length ns → IsOf (known_at f.values x) (number_at ns i)) (large_numbers (kinds_up ks) l (pad s) wide counted x here e)
+          (m.values.each x i (subst (λ j. j < length f.values) own there)) q)
+
+  number_same : (o : Option ℕ) → ((x : ℕ) → o ≡ Some x → x < length s) → number_if (spread (pad s)) o ≡ number_if s o
+  number_same None inside = refl
+  number_same (Some x) inside =
+      let here : x < length (pad s) = omega (arith, inside x refl, length-map s padded) in
+      ap (λ (ns : Numbers). number_at ns 0) (own_numbers (pad s) x here) ∙ first_kept (numbers_of (pad s) x) ∙ numbers_at s x 0
+
+  agreed : Agrees l (Some f) s
+  agreed = record {
+    values = λ x i q.
+        let here : x < length (kinds_up ks) = omega (arith, some_below s x (omega (arith, q)), st.size, length-map ks kind_up) in
+        subst (IsOf (known_at f.values (slot_of l x i))) (numbers_at s x i) (padded_of x i here (omega (arith, q, numbers_longer s x)));
+    scalars = λ k p. st.counts (chosen_at l k) (over.scalars k p).there ∙ ap count_of (over.scalars k p).scalar;
+    octagon = meets_same (entry f.octagon) (selected l.chosen (spread (pad s))) (selected l.chosen s) (λ k. number_same (slice_get l.chosen k) (λ x e.
+        let r = chosen_is l.chosen k x e in
+        omega (arith, st.size, subst (λ n. n < length ks) r.1 (over.scalars k r.0).there))) m.octagon;
+  }
+
+agrees : (ks : Kinds) (l : Layout) (f : Option Facts) (s : Stored) → IsLayout l → IsOver ks l → IsStore ks s → AreFactsIf l f → Member l f (spread (pad s)) → Agrees l f s
+agrees ks l None s laid o st h m = m
+agrees ks l (Some f) s laid o st h m = agreed ks l f s laid o st h m
 
 nothing_padded : (g : GraphOf) (s : Stored) → HasElements g → IsStore (kinds_of g) s → pad s ≡ s
 nothing_padded g s some st = pad_same s (λ x h.
@@ -186,13 +224,13 @@ pub families_hold_runs : FamiliesHoldRuns
 families_hold_runs g l known made solved v s run =
     let at = reached g l known made solved v s run in
     let facts = solved.facts v at.point in
-    let kept = states_sound.kept l (known v) (pad s) made.layout facts at.member in
+    let kept = states_sound.kept l (known v) (spread (pad s)) made.layout facts at.member in
     record {
       store = at.store;
       known = agrees (kinds_of g) l (known v) s made.layout made.over at.store facts at.member;
       reduced_known = agrees (kinds_of g) l (reduced l (known v)) s made.layout made.over at.store (facts_stay.reductions l (known v) made.layout facts) kept;
-      member = λ some. subst (Member l (known v)) (nothing_padded g s some at.store) at.member;
-      reduced_member = λ some. subst (Member l (reduced l (known v))) (nothing_padded g s some at.store) kept;
+      member = λ some. subst (λ (u : Stored). Member l (known v) (spread u)) (nothing_padded g s some at.store) at.member;
+      reduced_member = λ some. subst (λ (u : Stored). Member l (reduced l (known v)) (spread u)) (nothing_padded g s some at.store) kept;
     }
 
 -- ---- the result is such a family

@@ -38,7 +38,10 @@ use Rattle.pk_state.specs.Reduced.{reduced}
 use Rattle.pk_state.specs.Changes.{known_in, IsValue}
 use Rattle.pk_state.proofs.Held.{facts_stay}
 use Rattle.pk_graph_step.proofs.TypedLemmas.{typed_value, binary_right as right_value}
+use Rattle.pk_transfer.specs.Slots.{spread}
 use Rattle.pk_transfer.specs.Trees.{tree_known, IsOver}
+use Rattle.pk_transfer.proofs.Slotting.{counts_of}
+use Rattle.pk_transfer.proofs.Spreading.{tree_spread}
 use Rattle.pk_transfer.specs.Transfers.{transferred}
 use Rattle.pk_transfer.proofs.Keeping.{transferred_keeps}
 use Rattle.pk_transfer.proofs.Told.{typed_in, trees_sound, in_wider, right_wider}
@@ -303,12 +306,12 @@ nothing_is : (y : Layout) (f : Option Facts) (s : Stored) → nothing_in f ≡ t
 nothing_is y None s e m = m
 nothing_is y (Some f) s e m = absurd (cc)
 
-module _ (ks : Kinds) (y : Layout) (f : Facts) (s : Stored) (over : IsOver ks y) (lay : IsLayout y) (a : AreFactsIf y (Some f)) (m : Member y (Some f) s) (st : IsStore ks s) where
+module _ (ks : Kinds) (y : Layout) (f : Facts) (s : Stored) (over : IsOver ks y) (lay : IsLayout y) (a : AreFactsIf y (Some f)) (m : Member y (Some f) (spread s)) (st : IsStore ks s) where
   abbrev known : TreeOf ℕ → Option Known
   known e = tree_known (known_in (Some f)) e
 
   pub one_of : (e : TreeOf ℕ) (z : ℤ) → IsTyped ks e → tree_value storing e s ≡ Ok z → IsOneOf (known e) z
-  one_of e z h k = trees_sound.values y (Some f) s e z a m (typed_in ks y e over h).0 k
+  one_of e z h k = trees_sound.values y (Some f) (spread s) e z a m (typed_in ks y e over h).0 (tree_spread ks s e (counts_of ks s st) h ∙ k)
 
   pub value_of_type : (e : TreeOf ℕ) → IsTyped ks e → IfSome (known e) (IsValue (type_of ks e))
   value_of_type e h = let t = typed_in ks y e over h in subst (λ (u : IntType). IfSome (known e) (IsValue u)) t.1 (tree_stays y (Some f) e a t.0)
@@ -332,7 +335,7 @@ module _ (ks : Kinds) (y : Layout) (f : Facts) (s : Stored) (over : IsOver ks y)
       let goes : effect storing [] (Guard e false) s ≡ To s = rw (k, t) refl in
       let before = facts_stay.reductions y (Some f) lay a in
       let after = guard_stays ks y (reduced y (Some f)) e false over before h in
-      nothing_is y (transferred y (Some f) (Guard e false)) s n (transferred_keeps y (Some f) (Guard e false) lay a after ks s s [] over st m h goes)
+      nothing_is y (transferred y (Some f) (Guard e false)) (spread s) n (transferred_keeps y (Some f) (Guard e false) lay a after ks s s [] over st m h goes)
 
   operation_safe : (o : OperationOf) → IsTypedOperation ks o → HasKind o → operation_verdict y (Some f) o ≡ Safe → FaultsIn o s → ⊥
   operation_safe (Index n i) h k v e =
@@ -384,10 +387,10 @@ module _ (ks : Kinds) (y : Layout) (f : Facts) (s : Stored) (over : IsOver ks y)
       there (nothing_in (transferred y (Some f) (Guard c false))) one.0.range one.3
 
 -- of any state
-pub verdict_safe : (ks : Kinds) (y : Layout) (f : Option Facts) (s : Stored) (o : OperationOf) → IsOver ks y → IsLayout y → AreFactsIf y f → Member y f s → IsStore ks s → IsTypedOperation ks o → HasKind o → verdict_of y f o ≡ Safe → FaultsIn o s → ⊥
+pub verdict_safe : (ks : Kinds) (y : Layout) (f : Option Facts) (s : Stored) (o : OperationOf) → IsOver ks y → IsLayout y → AreFactsIf y f → Member y f (spread s) → IsStore ks s → IsTypedOperation ks o → HasKind o → verdict_of y f o ≡ Safe → FaultsIn o s → ⊥
 verdict_safe ks y None s o over lay a m st h k v e = m
 verdict_safe ks y (Some f) s o over lay a m st h k v e = operation_safe ks y f s over lay a m st o h k v e
 
-pub verdict_there : (ks : Kinds) (y : Layout) (f : Option Facts) (s : Stored) (o : OperationOf) → IsOver ks y → IsLayout y → AreFactsIf y f → Member y f s → IsStore ks s → IsTypedOperation ks o → HasKind o → verdict_of y f o ≡ Unreachable → IsEvaluatedIn o s → ⊥
+pub verdict_there : (ks : Kinds) (y : Layout) (f : Option Facts) (s : Stored) (o : OperationOf) → IsOver ks y → IsLayout y → AreFactsIf y f → Member y f (spread s) → IsStore ks s → IsTypedOperation ks o → HasKind o → verdict_of y f o ≡ Unreachable → IsEvaluatedIn o s → ⊥
 verdict_there ks y None s o over lay a m st h k v e = m
 verdict_there ks y (Some f) s o over lay a m st h k v e = operation_there ks y f s over lay a m st o h k v e

@@ -1,5 +1,6 @@
 -- Arrays without elements, as if they had one that is 0: no step uses it.
-use Rattle.std.specs.Prelude.{◌≡◌, ◌⊎◌, ℕ, zero, suc, ◌<◌, ◌≤◌, nat_eq, Bool, true, false, if◌then◌else◌, ℤ, pos, [], ◌∷◌, map, length, replicate, slice_index_or, slice_set, Option, Some, None, Result, Ok}
+use Rattle.std.specs.Prelude.{◌≡◌, ◌⊎◌, ℕ, zero, suc, ◌+◌, ◌-◌, ◌++◌, ◌<◌, ◌≤◌, nat_eq, Bool, true, false, if◌then◌else◌, ℤ, pos, [], ◌∷◌, map, length, replicate, slice_index_or, slice_set, Option, Some, None, Result, Ok}
+use Rattle.std.specs.List.{flat_map}
 use Rattle.std.proofs.Common.{arith, refl, ap, sym, subst, ◌∙◌, inl, inr, length-set}
 use Rattle.std.proofs.Math.ListN.{get_or-map}
 use Rattle.std.proofs.lemmas.Bool.{cases_lt}
@@ -18,11 +19,14 @@ use Rattle.pk_graph.specs.Kinds.{Kind, Kinds, no_kind, kind_at, type_at, count_o
 use Rattle.pk_graph.specs.Steps.{Numbers, number_at, Failure, failure, at_site, and_then, tree_value, is_true, indexed, all_in_type, are_any, To, Wants, Faulted, with_value, passed, effect}
 use Rattle.pk_graph.specs.Stores.{Stored, storing, numbers_of, IsStore}
 use Rattle.pk_graph.specs.Accesses.{OperationOf, Index, Divisor, Negation, Result as Arithmetic, Shift, Assertion}
-use Rattle.pk_state.specs.Layouts.{Layout}
+use Rattle.pk_value.specs.Known.{any_of, exactly}
+use Rattle.pk_state.specs.Layouts.{Layout, is_spread}
+use Rattle.pk_state.specs.Changes.{with_known}
 use Rattle.pk_state.specs.Facts.{Facts}
 use Rattle.pk_graph_step.proofs.KeptLemmas.{place_in}
 use Rattle.pk_transfer.specs.Trees.{IsOver}
-use Rattle.pk_transfer.specs.Transfers.{applied}
+use Rattle.pk_transfer.specs.Slots.{is_small, further_count, further_types, further_from}
+use Rattle.pk_transfer.specs.Transfers.{forgotten_in, known_each, applied}
 use Rattle.pk_transfer.proofs.Transferring.{value_ok, place_ok, then_place}
 use Rattle.pk_verdict.specs.Verdicts.{IsTypedOperation}
 use Rattle.pk_sound.specs.Verdicts.{IsEvaluatedIn, FaultsIn}
@@ -121,6 +125,10 @@ up_is : (n : ℕ) → length_up (Some n) ≡ Some (up n)
 up_is zero = refl
 up_is (suc n) = refl
 
+up_less : (n : ℕ) → up n - 1 ≡ n - 1
+up_less zero = omega arith
+up_less (suc n) = refl
+
 up_some : (n : ℕ) → 0 < n → up n ≡ n
 up_some zero h = absurd (omega (arith, h))
 up_some (suc n) h = refl
@@ -136,7 +144,7 @@ padded_count [] (suc n) e = absurd (omega (arith, e))
 padded_count (z ∷ zs) zero e = absurd (omega (arith, e))
 padded_count (z ∷ zs) (suc n) e = e
 
-kind_at_up : (ks : Kinds) (x : ℕ) → kind_at (kinds_up ks) x ≡ kind_up (kind_at ks x)
+pub kind_at_up : (ks : Kinds) (x : ℕ) → kind_at (kinds_up ks) x ≡ kind_up (kind_at ks x)
 kind_at_up ks x = get_or-map kind_up ks x no_kind
 
 type_at_up : (ks : Kinds) (x : ℕ) → type_at (kinds_up ks) x ≡ type_at ks x
@@ -163,17 +171,44 @@ store_up ks s st = record {
         let none : number_at (numbers_of (pad s) x) i ≡ pos 0 = numbers_at s x i ∙ past_at (numbers_of s x) i (omega (arith, g, st.counts x h)) in
         subst (InType (type_at (kinds_up ks) x)) (sym none) (zero_of (type_at (kinds_up ks) x))
 
-pub over_up : (ks : Kinds) (l : Layout) → IsOver ks l → IsOver (kinds_up ks) l
-over_up ks l o = record {
-  size = long_up ks ∙ o.size;
-  types = λ x p. o.types x (omega (arith, p, long_up ks)) ∙ sym (type_at_up ks x);
-  scalars = λ k p. ap (λ (j : Kind). j.length) (kind_at_up ks (slice_index_or l.chosen k 0)) ∙ ap length_up (o.scalars k p);
-}
+pub small_up : (o : Option ℕ) → is_small (length_up o) ≡ is_small o
+small_up None = refl
+small_up (Some zero) = refl
+small_up (Some (suc n)) = refl
 
--- ---- what is typed
+pub further_up : (o : Option ℕ) → further_count (length_up o) ≡ further_count o
+further_up None = refl
+further_up (Some zero) = refl
+further_up (Some (suc n)) = refl
+
+own_types_up : (ks : Kinds) → map (λ (k : Kind). k.int_type) (kinds_up ks) ≡ map (λ (k : Kind). k.int_type) ks
+own_types_up [] = refl
+own_types_up (k ∷ ks) = ap (λ ts. k.int_type ∷ ts) (own_types_up ks)
+
+further_types_up : (ks : Kinds) → flat_map further_types (kinds_up ks) ≡ flat_map further_types ks
+further_types_up [] = refl
+further_types_up (k ∷ ks) =
+    ap (λ n. replicate n k.int_type ++ flat_map further_types (kinds_up ks)) (further_up k.length) ∙ ap (λ ts. further_types k ++ ts) (further_types_up ks)
+
+further_from_up : (ks : Kinds) (at : ℕ) → further_from at (kinds_up ks) ≡ further_from at ks
+further_from_up [] at = refl
+further_from_up (k ∷ ks) at =
+    ap (λ b. (if b then Some at else None) ∷ further_from (at + further_count (length_up k.length)) (kinds_up ks)) (small_up k.length)
+    ∙ ap (λ n. (if is_small k.length then Some at else None) ∷ further_from (at + n) (kinds_up ks)) (further_up k.length)
+    ∙ ap (λ ns. (if is_small k.length then Some at else None) ∷ ns) (further_from_up ks (at + further_count k.length))
 
 scalar_up : (ks : Kinds) (x : ℕ) → IsScalar ks x → IsScalar (kinds_up ks) x
 scalar_up ks x h = record { there = omega (arith, h.there, long_up ks); scalar = ap (λ (k : Kind). k.length) (kind_at_up ks x) ∙ ap length_up h.scalar }
+
+pub over_up : (ks : Kinds) (l : Layout) → IsOver ks l → IsOver (kinds_up ks) l
+over_up ks l o = record {
+  types =
+      o.types ∙ sym (ap (λ ts. ts ++ flat_map further_types (kinds_up ks)) (own_types_up ks) ∙ ap (λ ts. map (λ (k : Kind). k.int_type) ks ++ ts) (further_types_up ks));
+  further = o.further ∙ sym (ap (λ n. further_from n (kinds_up ks)) (long_up ks) ∙ further_from_up ks (length ks));
+  scalars = λ k p. scalar_up ks (slice_index_or l.chosen k 0) (o.scalars k p);
+}
+
+-- ---- what is typed
 
 typed_both : (ks : Kinds) (e : TreeOf ℕ) → IsTyped ks e → IsTyped (kinds_up ks) e × (type_of (kinds_up ks) e ≡ type_of ks e)
 typed_both ks (constant t n) h = (h, refl)
@@ -286,7 +321,7 @@ step_pad ks (Havoc x u n) chosen s t h st e = by (are_any u n chosen) refl e
       chosen = padded chosen;
       typed = (omega (arith, h.0, long_up ks), type_at_up ks x ∙ h.1, count_at_up ks x ∙ ap up h.2);
       goes = ap (λ (b : Bool). if b then To (slice_set (pad s) x (padded chosen)) else Wants u (up n)) (any_padded u n chosen f) ∙ pad_write s t x chosen (padded chosen) refl g;
-      same = λ y k. refl;
+      same = λ y k. ap (λ (m : ℕ). if is_spread y x then known_each y k x (any_of u) m else forgotten_in y k x (Some (any_of u))) (up_less n);
     }
     by false f g = absurd (cc)
 step_pad ks (Clear a) chosen s t h st e = record {
@@ -294,7 +329,7 @@ step_pad ks (Clear a) chosen s t h st e = record {
   chosen = chosen;
   typed = array_up ks a h;
   goes = pad_write s t a.variable (replicate a.length (pos 0)) (replicate (up a.length) (pos 0)) (zeros_padded a.length) e;
-  same = λ y f. refl;
+  same = λ y f. ap (λ (m : ℕ). if is_spread y a.variable then known_each y f a.variable (exactly (pos 0)) m else with_known f a.variable (exactly (pos 0))) (up_less a.length);
 }
 step_pad ks (Load x a at b i) chosen s t h st e =
     let k = place_ok (and_then (tree_value storing i s) (indexed at a.length)) (λ k. To (slice_set s x (number_at (numbers_of s a.variable) k ∷ []))) t e in

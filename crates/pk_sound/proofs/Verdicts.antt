@@ -10,6 +10,7 @@ use Rattle.pk_graph.specs.Graphs.{no_point, point_at}
 use Rattle.pk_verdict.specs.Verdicts.{verdict_of}
 use Rattle.pk_graph.specs.WellMade.{IsEdgeOf}
 use Rattle.pk_graph.specs.Stores.{Stored}
+use Rattle.pk_transfer.specs.Slots.{spread}
 use Rattle.pk_state.proofs.Held.{facts_stay}
 use Rattle.pk_state.proofs.Sound.{states_sound}
 use Rattle.pk_sound.proofs.Accesses.{IsAccessAt, in_instr, IsAccess, accesses_are}
@@ -28,7 +29,7 @@ families_judge g l known made_of solved access s has run =
     let at = reached g l known made_of solved access.point s run in
     let facts = solved.facts access.point at.point in
     let stays = facts_stay.reductions l (known access.point) made_of.layout facts in
-    let member = states_sound.kept l (known access.point) (pad s) made_of.layout facts at.member in
+    let member = states_sound.kept l (known access.point) (spread (pad s)) made_of.layout facts at.member in
     let wide = over_up (kinds_of g) l made_of.over in
     let store = store_up (kinds_of g) s at.store in
     let made : IsAccess g access = All-contains (IsAccess g) (accesses_of g) access (accesses_are g made_of.graph) has in
@@ -57,7 +58,7 @@ families_tell_faults g l known made_of solved p s e chosen w run has goes =
     let at = reached g l known made_of solved p s run in
     let facts = solved.facts p at.point in
     let stays = facts_stay.reductions l (known p) made_of.layout facts in
-    let member = states_sound.kept l (known p) (pad s) made_of.layout facts at.member in
+    let member = states_sound.kept l (known p) (spread (pad s)) made_of.layout facts at.member in
     let wide = over_up (kinds_of g) l made_of.over in
     let store = store_up (kinds_of g) s at.store in
     let edge : IsEdgeOf g e = All-contains (IsEdgeOf g) (point_at g p).edges e (made_of.graph.points p no_point at.point).edges has in

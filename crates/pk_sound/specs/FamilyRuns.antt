@@ -9,6 +9,7 @@ use Rattle.pk_state.specs.Layouts.{Layout}
 use Rattle.pk_state.specs.Facts.{Facts}
 use Rattle.pk_state.specs.Members.{Member}
 use Rattle.pk_state.specs.Reduced.{reduced}
+use Rattle.pk_transfer.specs.Slots.{spread}
 use Rattle.pk_verdict.specs.Verdicts.{verdict_of}
 use Rattle.pk_sound.specs.Runs.{HasElements, Reaches}
 use Rattle.pk_sound.specs.Held.{Agrees}
@@ -17,13 +18,13 @@ use Rattle.pk_sound.specs.Faults.{IsHidden, IsFailing}
 use Rattle.pk_sound.specs.Bounds.{IsDecidedWithin}
 use Rattle.pk_sound.specs.Families.{IsLaidOut, IsSolved}
 
--- A store has the numbers of the graph's variables. It agrees with facts, and with what they are once they are reduced; where each array has an element, it is a store of both.
+-- A store has the numbers of the graph's variables. It agrees with facts, and with what they are once they are reduced; where each array has an element, it is a store of both, slot by slot.
 pub record IsHeldBy (g : GraphOf) (l : Layout) (f : Option Facts) (s : Stored) : Type 0 where
   pub store : IsStore (kinds_of g) s
   pub known : Agrees l f s
   pub reduced_known : Agrees l (reduced l f) s
-  pub member : HasElements g → Member l f s
-  pub reduced_member : HasElements g → Member l (reduced l f) s
+  pub member : HasElements g → Member l f (spread s)
+  pub reduced_member : HasElements g → Member l (reduced l f) (spread s)
 
 -- Each store with which some run comes to a point agrees with what the family knows there.
 abbrev pub FamiliesHoldRuns : Type 0

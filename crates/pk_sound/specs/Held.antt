@@ -5,9 +5,10 @@ use Rattle.pk_graph.specs.Steps.{number_at}
 use Rattle.pk_graph.specs.Stores.{Stored, numbers_of, IsStore}
 use Rattle.pk_value.specs.Known.{IsOf}
 use Rattle.pk_octmat.specs.Octagon.{entry, Meets}
-use Rattle.pk_state.specs.Layouts.{Layout, chosen_at}
+use Rattle.pk_state.specs.Layouts.{Layout, chosen_at, slot_of}
 use Rattle.pk_state.specs.Facts.{Facts, Stated, known_at}
 use Rattle.pk_state.specs.Members.{selected, Member}
+use Rattle.pk_transfer.specs.Slots.{spread}
 use Rattle.pk_plan.specs.Order.{Level}
 use Rattle.pk_plan.specs.Plans.{PlanView}
 use Rattle.pk_iterate.specs.Outcome.{Outcome}
@@ -17,9 +18,10 @@ use Rattle.pk_analysis.specs.Flows.{Flow}
 use Rattle.pk_sound.specs.Runs.{HasElements, Reaches}
 use Rattle.pk_sound.specs.Results.{IsAnalysed, known_at_point, reduced_at_point}
 
--- each number of each variable is one that is known of it, the octagon's variables are scalars, and their numbers meet its bounds
+-- each number of each variable is one that is known of its slot, the octagon's variables are scalars, and their numbers meet its bounds
 pub record AgreesWith (l : Layout) (f : Facts) (s : Stored) : Type 0 where
-  pub values : (x i : ℕ) → i < length (numbers_of s x) → IsOf (known_at f.values x) (number_at (numbers_of s x) i)
+  pub values : (x i : ℕ) → i < length (numbers_of s x) →
+      IsOf (known_at f.values (slot_of l x i)) (number_at (numbers_of s x) i)
   pub scalars : (k : ℕ) → k < length l.chosen → length (numbers_of s (chosen_at l k)) ≡ 1
   pub octagon : Meets (entry f.octagon) (selected l.chosen s)
 
@@ -27,13 +29,13 @@ abbrev pub Agrees : Layout → Option Facts → Stored → Type 0
 Agrees l None s = ⊥
 Agrees l (Some f) s = AgreesWith l f s
 
--- A store has the numbers of the graph's variables. It agrees with what the result knows at a point, and with what that is once it is reduced; where each array has an element, it is a store of both.
+-- A store has the numbers of the graph's variables. It agrees with what the result knows at a point, and with what that is once it is reduced; where each array has an element, it is a store of both, slot by slot.
 pub record IsHeldAt (g : GraphOf) (a : Flow) (it : Outcome (Cell Stated)) (v : ℕ) (s : Stored) : Type 0 where
   pub store : IsStore (kinds_of g) s
   pub known : Agrees a.layout (known_at_point a it v) s
   pub reduced : Agrees a.layout (reduced_at_point a it v) s
-  pub member : HasElements g → Member a.layout (known_at_point a it v) s
-  pub reduced_member : HasElements g → Member a.layout (reduced_at_point a it v) s
+  pub member : HasElements g → Member a.layout (known_at_point a it v) (spread s)
+  pub reduced_member : HasElements g → Member a.layout (reduced_at_point a it v) (spread s)
 
 -- Each store with which some run comes to a point agrees with what the result knows there.
 abbrev pub ResultHoldsRuns : Type 0

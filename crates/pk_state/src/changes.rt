@@ -2,7 +2,7 @@
 
 ghost use Rattle.std.specs.Prelude.{◌≡◌, ◌<◌, ◌*◌, true, IfOk, IfSome, length, None};
 ghost use Rattle.pk_octops.specs.Guards.{IsGuard};
-ghost use Rattle.pk_state.specs.Layouts.{type_at, place_in};
+ghost use Rattle.pk_state.specs.Layouts.{type_at, is_spread, slot_of, place_in};
 ghost use Rattle.pk_state.specs.Facts.{AreFactsIf};
 ghost use Rattle.pk_value.specs.Laws.{IsTight};
 ghost use Rattle.pk_state.specs.Changes.{IsValue, IsApart, known_in, bound_in, with_known, with_bounds, assigned_in, guarded_in};
@@ -209,6 +209,23 @@ impl<'f> State<'f> {
         ensures { result ≡ type_at self.now.layout x }
     {
         self.frame.int_type(x)
+    }
+
+    /// Whether each number of a variable has a slot.
+    pub fn is_spread(&self, x: usize) -> bool
+        requires { x < length self.now.layout.further }
+        ensures { result ≡ is_spread self.now.layout x }
+    {
+        self.frame.is_spread(x)
+    }
+
+    /// The slot of a variable's number i.
+    pub fn slot(&self, x: usize, i: usize) -> usize
+        requires variable { x < length self.now.layout.further }
+        requires there { slot_of self.now.layout x i < length self.now.layout.types }
+        ensures { result ≡ slot_of self.now.layout x i }
+    {
+        self.frame.slot(x, i)
     }
 
     /// The place of a variable in the octagon, if that is over it.

@@ -1,16 +1,18 @@
 // The variables that a state speaks of.
 
 ghost use Rattle.std.specs.Prelude.{◌≡◌, ◌<◌, length, IfSome};
-ghost use Rattle.pk_state.specs.Layouts.{Layout, IsLayout, type_at, chosen_at, place_in};
+ghost use Rattle.pk_state.specs.Layouts.{Layout, IsLayout, type_at, chosen_at, is_spread, slot_of, place_in};
 
 use pk_ctypes::IntType;
 use std::marker::Model;
 
-/// The type of each variable, and the variables that the octagon is over. States share it.
+/// The type of each slot, the variables that the octagon is over, and of each variable whose numbers have a slot each where those
+/// behind the first begin. States share it.
 #[derive(Drop)]
 pub struct Frame {
     types: Vec<IntType>,
     chosen: Vec<usize>,
+    further: Vec<Option<usize>>,
 }
 
 impl Model for Frame {
@@ -18,21 +20,27 @@ impl Model for Frame {
 
     ghost Value = { Layout };
 
-    ghost view = { λ f. record { types = f.types.items; chosen = f.chosen.items } };
+    ghost view = { λ f. record { types = f.types.items; chosen = f.chosen.items; further = f.further.items } };
 
-    ghost invariant = { λ f. IsLayout (record { types = f.types.items; chosen = f.chosen.items }) };
+    ghost invariant = { λ f.
+        IsLayout (record { types = f.types.items; chosen = f.chosen.items; further = f.further.items }) };
 }
 
 impl Frame {
-    /// The types of the variables by number, and the numbers of those that the octagon is over, each once.
-    pub fn new(types: Vec<IntType>, chosen: Vec<usize>) -> Frame
-        requires { IsLayout (record { types = types.items; chosen = chosen.items }) }
-        ensures { result ≡ record { types = types.items; chosen = chosen.items } }
+    /// The types of the slots by number, the numbers of the variables that the octagon is over, each once, and of each variable whose
+    /// numbers have a slot each where those behind the first begin.
+    pub fn new(types: Vec<IntType>, chosen: Vec<usize>, further: Vec<Option<usize>>) -> Frame
+        requires { IsLayout (record { types = types.items; chosen = chosen.items; further = further.items }) }
+        ensures { result ≡ record { types = types.items; chosen = chosen.items; further = further.items } }
     {
-        Frame { types, chosen }
+        Frame {
+            types,
+            chosen,
+            further,
+        }
     }
 
-    /// How many variables there are.
+    /// How many slots there are.
     pub fn len(&self) -> usize
         ensures { result ≡ length self.now.types }
     {
@@ -46,7 +54,27 @@ impl Frame {
         self.chosen.len()
     }
 
-    /// The type of a variable.
+    /// Whether each number of a variable has a slot.
+    pub fn is_spread(&self, x: usize) -> bool
+        requires { x < length self.now.further }
+        ensures { result ≡ is_spread self.now x }
+    {
+        self.further[x].is_some()
+    }
+
+    /// The slot of a variable's number i.
+    pub fn slot(&self, x: usize, i: usize) -> usize
+        requires variable { x < length self.now.further }
+        requires there { slot_of self.now x i < length self.now.types }
+        ensures { result ≡ slot_of self.now x i }
+    {
+        match self.further[x] {
+            None => x,
+            Some(first) => { if i == 0 { x } else { first + (i - 1) } }
+        }
+    }
+
+    /// The type of a slot.
     pub fn int_type(&self, x: usize) -> IntType
         requires { x < length self.now.types }
         ensures { result ≡ type_at self.now x }

@@ -8,6 +8,7 @@ ghost use Rattle.pk_thresh.specs.Chains.{IsChainBound, chain_bound_of};
 
 use crate::constants::constants;
 use pk_graph::{Graph, octagon_variables};
+use pk_transfer::frame;
 use std::alloc::{AllocError, Global};
 
 // Adds a constant and the numbers next to it.
@@ -46,8 +47,8 @@ pub fn thresholds(alloc: Global, graph: &Graph) -> Result<Vec<i128>, AllocError>
 }
 
 // The bound for so many, where it is below 2^64.
-fn bound(variables: usize, thresholds: usize, octagon: usize) -> Option<u64>
-    ensures { IfSome result (λ n. n ≡ chain_bound_of variables thresholds octagon) }
+fn bound(slots: usize, thresholds: usize, octagon: usize) -> Option<u64>
+    ensures { IfSome result (λ n. n ≡ chain_bound_of slots thresholds octagon) }
 {
     let moves = (thresholds as u64)
         .checked_add(1)?
@@ -56,7 +57,7 @@ fn bound(variables: usize, thresholds: usize, octagon: usize) -> Option<u64>
     let entries = (octagon as u64)
         .checked_mul(4)?
         .checked_mul(octagon as u64)?;
-    let values = (variables as u64).checked_mul(moves)?;
+    let values = (slots as u64).checked_mul(moves)?;
     values.checked_add(1)?.checked_add(entries)
 }
 
@@ -66,7 +67,8 @@ pub fn chain_bound(alloc: Global, graph: &Graph, oct: usize) -> Result<u64, Allo
 {
     let stops = thresholds(alloc, graph)?;
     let octagon = octagon_variables(alloc, graph, oct)?;
-    match bound(graph.variables().len(), stops.len(), octagon.len()) {
+    let slots = frame(alloc, graph, 0)?.len();
+    match bound(slots, stops.len(), octagon.len()) {
         Some(n) => Ok(n),
         None => Err(AllocError),
     }

@@ -11,10 +11,11 @@ use Rattle.pk_graph.specs.Kinds.{Kind, no_kind, kind_at}
 use Rattle.pk_graph.specs.Graphs.{VariableOf, PointOf, EdgeOf, GraphOf, no_variable, no_point, kinds_of, point_at}
 use Rattle.pk_graph.specs.WellMade.{IsGraph, IsPointOf, IsEdgeOf}
 use Rattle.pk_graph.specs.OctagonVariables.{is_asked_in, is_named_scalar, first_asked}
-use Rattle.pk_state.specs.Layouts.{Layout}
+use Rattle.pk_state.specs.Layouts.{Layout, chosen_at}
 use Rattle.pk_transfer.specs.Trees.{IsOver}
 use Rattle.pk_transfer.specs.Transfers.{IsInstrOver}
 use Rattle.pk_transfer.specs.Graphs.{layout_of, GraphsAreOver}
+use Rattle.pk_transfer.proofs.Slotting.{own_there, has_slots}
 
 -- ---- the first asked variables
 
@@ -85,6 +86,15 @@ scalar g x h =
     ∙ ap (λ (k : Kind). k.length) (kinds_at g.variables h.place)
     ∙ no_length (slice_index_or g.variables h.place no_variable).kind.length (both_true (not (is_some (slice_index_or g.variables h.place no_variable).kind.length)) (is_some (slice_index_or g.variables h.place no_variable).name) h.scalar).0
 
+over_of : (g : GraphOf) (n : ℕ) → IsOver (kinds_of g) (layout_of g n)
+over_of g n = record {
+  types = refl;
+  further = refl;
+  scalars = λ k h.
+      let from = asked_from g.points n 0 g.variables k h in
+      record { there = omega (arith, from.number, from.there, length-map g.variables (λ (v : VariableOf). v.kind)); scalar = scalar g (slice_index_or (layout_of g n).chosen k 0) from };
+}
+
 no_edge : EdgeOf
 no_edge = record { instr = Skip; to = 0 }
 
@@ -98,13 +108,10 @@ pub graphs_over : GraphsAreOver
 graphs_over = record {
   layouts = λ g n few. record {
     few = omega (arith, few, few_asked g.points n 0 g.variables);
-    there = λ k h. let from = asked_from g.points n 0 g.variables k h in omega (arith, from.number, from.there, length-map (kinds_of g) (λ (j : Kind). j.int_type), length-map g.variables (λ (v : VariableOf). v.kind));
+    there = λ k h. own_there (kinds_of g) (layout_of g n) (over_of g n) (chosen_at (layout_of g n) k) ((over_of g n).scalars k h).there;
     once = once g.points n 0 g.variables;
   };
-  over = λ g n. record {
-    size = sym (length-map (kinds_of g) (λ (j : Kind). j.int_type));
-    types = λ x h. get_or-map (λ (j : Kind). j.int_type) (kinds_of g) x no_kind;
-    scalars = λ k h. scalar g (slice_index_or (layout_of g n).chosen k 0) (asked_from g.points n 0 g.variables k h);
-  };
+  over = over_of;
+  slots = λ ks y x over h. has_slots ks y over x h;
   instructions = instructions;
 }

@@ -1,5 +1,9 @@
 pub mod Told
 pub mod Refining
+pub mod Slotting
+pub mod Spreading
+mod Smalls
+mod EachLemmas
 pub mod Apart
 pub mod Forms
 pub mod Assigning
@@ -8,6 +12,6 @@ pub mod Transferring
 pub mod Few
 pub mod Over
 pub mod Operands
-mod LayoutLemmas
+pub mod LayoutLemmas
 pub mod Layouting
 pub mod Keeping

@@ -7,9 +7,9 @@ use Rattle.pk_ctypes.specs.declared.types.Op.{Op}
 use Rattle.pk_ctypes.specs.declared.types.Op.TheVariants.{Add, Sub, Mul, Div, Rem, Shl, Shr, And, Or, Xor, Lt, Gt, Le, Ge, Eq, Ne, Neg, BitNot, Not}
 use Rattle.pk_ctypes.specs.Operators.{is_not}
 use Rattle.pk_graph.specs.Trees.{TreeOf, constant, variable, converted, unary, binary}
-use Rattle.pk_graph.specs.Kinds.{Kinds, count_of, IsTyped, IsScalar}
+use Rattle.pk_graph.specs.Kinds.{Kinds, IsTyped, IsScalar}
 use Rattle.pk_graph.specs.Steps.{number_at, tree_value}
-use Rattle.pk_graph.specs.Stores.{Stored, storing, numbers_of, number_of, IsStore}
+use Rattle.pk_graph.specs.Stores.{Stored, storing, numbers_of, number_of}
 use Rattle.pk_value.specs.Known.{Known, IsOf, IsOneOf}
 use Rattle.pk_value.proofs.Sound.{equal_by_test}
 use Rattle.pk_state.specs.Layouts.{Layout}
@@ -17,11 +17,14 @@ use Rattle.pk_state.specs.Facts.{Facts, known_at, AreFactsIf}
 use Rattle.pk_state.specs.Members.{selected, Member}
 use Rattle.pk_state.specs.Changes.{known_in, with_known, AreNumbersOf}
 use Rattle.pk_state.proofs.Changed.{changes_sound, changes_stay, refined_values}
+use Rattle.pk_transfer.specs.Slots.{spread}
 use Rattle.pk_transfer.specs.Trees.{tree_known, IsOver}
 use Rattle.pk_transfer.specs.Linear.{Linear, difference, linear, IsBounded, IsGuardOn}
 use Rattle.pk_transfer.specs.Guards.{is_comparison, is_zero, negated, condition_of, Condition, test_of, HoldsIn, flipped, refined}
 use Rattle.pk_transfer.specs.Assignments.{with_known_if}
 use Rattle.pk_transfer.specs.Assumptions.{places_in, le_in, compared_in, with_operand, if_some, refined_in, GuardsPass}
+use Rattle.pk_transfer.proofs.Slotting.{own_there, counts_of}
+use Rattle.pk_transfer.proofs.Spreading.{tree_spread, scalar_counts}
 use Rattle.pk_transfer.proofs.Told.{trees_sound}
 use Rattle.pk_transfer.proofs.Apart.{differences_guards}
 use Rattle.pk_transfer.proofs.Forms.{Tells, tree_tells, forms_exact}
@@ -81,9 +84,12 @@ refined_one y None s x k m n = absurd m
 refined_one y (Some f) s x k m n = record { values = refined_values f.values s x k m.values n; scalars = m.scalars; octagon = m.octagon }
 
 -- a scalar's number is its only one
-scalar_numbers : (ks : Kinds) (s : Stored) (x : ℕ) (k : Known) → IsStore ks s → IsScalar ks x → IsOf k (number_of s x) → AreNumbersOf k (numbers_of s x)
+abbrev pub HasScalars : Kinds → Stored → Type 0
+HasScalars ks s = (x : ℕ) → IsScalar ks x → length (numbers_of s x) ≡ 1
+
+scalar_numbers : (ks : Kinds) (s : Stored) (x : ℕ) (k : Known) → HasScalars ks s → IsScalar ks x → IsOf k (number_of s x) → AreNumbersOf k (numbers_of s x)
 scalar_numbers ks s x k st sc h =
-    let one : length (numbers_of s x) ≡ 1 = st.counts x sc.there ∙ ap count_of sc.scalar in
+    let one = st x sc in
     record { each = λ i p. at i (omega (arith, p, one)); some = omega (arith, one) }
   where
     at : (i : ℕ) → i ≡ 0 → IsOf k (number_at (numbers_of s x) i)
@@ -98,13 +104,13 @@ size_of : (y : Layout) (f : Option Facts) → AreFactsIf y f → HasSize y f
 size_of y None a = tt
 size_of y (Some f) a = a.values.size
 
-variable_keeps : (ks : Kinds) (y : Layout) (f : Option Facts) (s : Stored) (x : ℕ) (op : Op) (v : Known) (w : ℤ) → IsOver ks y → IsStore ks s → HasSize y f → Member y f s → IsScalar ks x → IsOf v w → test_of op (number_of s x) w ≡ true
+variable_keeps : (ks : Kinds) (y : Layout) (f : Option Facts) (s : Stored) (x : ℕ) (op : Op) (v : Known) (w : ℤ) → IsOver ks y → HasScalars ks s → HasSize y f → Member y f s → IsScalar ks x → IsOf v w → test_of op (number_of s x) w ≡ true
     → HasSize y (with_operand f (variable x) op v) × Member y (with_operand f (variable x) op v) s
 variable_keeps ks y None s x op v w over st z m sc i t = absurd m
 variable_keeps ks y (Some f) s x op v w over st z m sc i t = go (refined op (known_at f.values x) v) (guards_keep.left op (known_at f.values x) v (number_of s x) w held i t)
   where
     here : x < length f.values
-    here = omega (arith, sc.there, over.size, z)
+    here = omega (arith, own_there ks y over x sc.there, z)
 
     held : IsOf (known_at f.values x) (number_of s x)
     held = m.values.each x 0 here (m.values.some x here)
@@ -113,7 +119,7 @@ variable_keeps ks y (Some f) s x op v w over st z m sc i t = go (refined op (kno
     go None h = absurd h
     go (Some k) h = (length-set f.values x k ∙ z, refined_one y (Some f) s x k m (scalar_numbers ks s x k st sc h))
 
-operand_keeps : (ks : Kinds) (y : Layout) (f : Option Facts) (s : Stored) (e : TreeOf ℕ) (op : Op) (v : Known) (z w : ℤ) → IsOver ks y → IsStore ks s → HasSize y f → Member y f s → IsTyped ks e → tree_value storing e s ≡ Ok z → IsOf v w → test_of op z w ≡ true
+operand_keeps : (ks : Kinds) (y : Layout) (f : Option Facts) (s : Stored) (e : TreeOf ℕ) (op : Op) (v : Known) (z w : ℤ) → IsOver ks y → HasScalars ks s → HasSize y f → Member y f s → IsTyped ks e → tree_value storing e s ≡ Ok z → IsOf v w → test_of op z w ≡ true
     → HasSize y (with_operand f e op v) × Member y (with_operand f e op v) s
 operand_keeps ks y f s (constant t n) op v z w over st g m h e i r = (g, m)
 operand_keeps ks y f s (variable x) op v z w over st g m h e i r =
@@ -127,7 +133,7 @@ if_some_keeps : (y : Layout) (s : Stored) (o : Option Known) (f : Option Facts) 
 if_some_keeps y s None f z h m = absurd h
 if_some_keeps y s (Some k) f z h m = m
 
-refined_keep : (ks : Kinds) (y : Layout) (f : Option Facts) (s : Stored) (c : Condition) (o p : Option Known) (h : HoldsIn s c) → IsOver ks y → IsStore ks s → HasSize y f → Member y f s → IsTyped ks c.left → IsTyped ks c.right → IsOneOf o h.x → IsOneOf p h.y
+refined_keep : (ks : Kinds) (y : Layout) (f : Option Facts) (s : Stored) (c : Condition) (o p : Option Known) (h : HoldsIn s c) → IsOver ks y → HasScalars ks s → HasSize y f → Member y f s → IsTyped ks c.left → IsTyped ks c.right → IsOneOf o h.x → IsOneOf p h.y
     → Member y (refined_in f c o p) s
 refined_keep ks y f s c None p h over st g m l r i j = absurd i
 refined_keep ks y f s c (Some k) None h over st g m l r i j = absurd j
@@ -159,7 +165,7 @@ condition_typed ks (binary op p t d e) b h = by (is_comparison op)
     by true = (h.0, h.1)
     by false = (h, zero_typed ks)
 
-holds_keep : (ks : Kinds) (y : Layout) (f : Option Facts) (s : Stored) (c : Condition) → IsOver ks y → IsStore ks s → AreFactsIf y f → Member y f s → AreTyped ks c → HoldsIn s c
+holds_keep : (ks : Kinds) (y : Layout) (f : Option Facts) (s : Stored) (c : Condition) → IsOver ks y → HasScalars ks s → AreFactsIf y f → Member y f s → AreTyped ks c → HoldsIn s c
     → Member y (refined_in (compared_in c.op f (linear y.chosen (known_in f) c.left) (linear y.chosen (known_in f) c.right)) c (tree_known (known_in f) c.left) (tree_known (known_in f) c.right)) s
 holds_keep ks y f s c over st a m h i =
     let left = trees_sound.typed ks y c.left over h.0 in
@@ -176,4 +182,6 @@ holds_keep ks y f s c over st a m h i =
     (trees_sound.values y f s c.left i.x a m left i.left_is) (trees_sound.values y f s c.right i.y a m right i.right_is)
 
 pub guards_pass : GuardsPass
-guards_pass = λ ks y f s e b z over st a m h v t. holds_keep ks y f s (condition_of e b) over st a m (condition_typed ks e b h) (guards_keep.condition e b s z v t)
+guards_pass = λ ks y f s e b z over st a m h v t.
+    let scalars : HasScalars ks (spread s) = scalar_counts ks y s over (counts_of ks s st) in
+    holds_keep ks y f (spread s) (condition_of e b) over scalars a m (condition_typed ks e b h) (guards_keep.condition e b (spread s) z (tree_spread ks s e (counts_of ks s st) h ∙ v) t)

@@ -28,6 +28,7 @@ use Rattle.pk_state.specs.Facts.{Facts, AreFactsIf}
 use Rattle.pk_state.specs.Members.{Member}
 use Rattle.pk_state.specs.Changes.{known_in, IsValue}
 use Rattle.pk_transfer.specs.Trees.{known_with, tree_known, kind_of, kinds_of, IsOver, TreesAreSound}
+use Rattle.pk_transfer.proofs.Slotting.{own_there, own_type}
 
 -- ---- types
 
@@ -132,9 +133,9 @@ tree_knows l f s (binary op p t d b) z a m h k =
 
 pub typed_in : (ks : Kinds) (l : Layout) (e : TreeOf ℕ) → IsOver ks l → IsTyped ks e → IsTyped (kinds_of l) e × (type_of (kinds_of l) e ≡ type_of ks e)
 typed_in ks l (variable x) o h =
-    let same : kinds.type_at (kinds_of l) x ≡ kinds.type_at ks x = kinds_type l x ∙ o.types x h.there in
+    let same : kinds.type_at (kinds_of l) x ≡ kinds.type_at ks x = kinds_type l x ∙ own_type ks l o x h.there in
     let scalar : (kind_at (kinds_of l) x).length ≡ None = ap (λ (k : Kind). k.length) (get_or-map kind_of l.types x Int) in
-    (record { there = omega (arith, h.there, o.size, length-map l.types kind_of); scalar = scalar }, same)
+    (record { there = omega (arith, own_there ks l o x h.there, length-map l.types kind_of); scalar = scalar }, same)
 typed_in ks l (constant t c) o h = (h, refl)
 typed_in ks l (converted t e) o h = ((typed_in ks l e o h).0, refl)
 typed_in ks l (unary op p t e) o h =

@@ -11,6 +11,7 @@ use Rattle.pk_state.specs.Layouts.{Layout}
 use Rattle.pk_state.specs.Facts.{Facts, AreFactsIf}
 use Rattle.pk_state.specs.Members.{Member}
 use Rattle.pk_state.specs.Changes.{known_in, guarded_in}
+use Rattle.pk_transfer.specs.Slots.{spread}
 use Rattle.pk_transfer.specs.Trees.{known_with, tree_known, IsOver}
 use Rattle.pk_transfer.specs.Linear.{Linear, difference, linear}
 use Rattle.pk_transfer.specs.Assignments.{with_known_if}
@@ -89,5 +90,5 @@ guard_in y f e b = holds_in y f (condition_of e b)
 abbrev pub GuardsPass : Type 0
 GuardsPass =
     (ks : Kinds) (y : Layout) (f : Option Facts) (s : Stored) (e : TreeOf ℕ) (b : Bool) (z : ℤ) → IsOver ks y →
-    IsStore ks s → AreFactsIf y f → Member y f s → IsTyped ks e → tree_value storing e s ≡ Ok z → is_true z ≡ b
-    → Member y (guard_in y f e b) s
+    IsStore ks s → AreFactsIf y f → Member y f (spread s) → IsTyped ks e → tree_value storing e s ≡ Ok z →
+    is_true z ≡ b → Member y (guard_in y f e b) (spread s)

@@ -2,16 +2,16 @@
 use Rattle.std.specs.Prelude.{◌≡◌, ℕ, ◌<◌, ℤ, length, map, Option, Some, None, Ok}
 use Rattle.pk_ctypes.specs.declared.types.IntType.{IntType}
 use Rattle.pk_graph.specs.Trees.{TreeOf, constant, variable, converted, unary, binary}
-use Rattle.pk_graph.specs.Kinds.{Kind, Kinds, kind_at, IsTyped}
-use Rattle.pk_graph.specs.Kinds as kinds
+use Rattle.pk_graph.specs.Kinds.{Kind, Kinds, IsScalar, IsTyped}
 use Rattle.pk_graph.specs.Steps.{tree_value}
 use Rattle.pk_graph.specs.Stores.{Stored, storing}
 use Rattle.pk_value.specs.Known.{Known, exactly, IsOneOf}
 use Rattle.pk_value.specs.Values as values
-use Rattle.pk_state.specs.Layouts.{Layout, type_at, chosen_at}
+use Rattle.pk_state.specs.Layouts.{Layout, chosen_at}
 use Rattle.pk_state.specs.Facts.{Facts, AreFactsIf}
 use Rattle.pk_state.specs.Members.{Member}
 use Rattle.pk_state.specs.Changes.{known_in}
+use Rattle.pk_transfer.specs.Slots.{slot_types, further_of}
 
 -- goes on with what is known; where nothing is possible, nothing is
 abbrev pub known_with : Option Known → (Known → Option Known) → Option Known
@@ -27,18 +27,18 @@ tree_known g (unary op s t e) = known_with (tree_known g e) (λ k. values.operat
 tree_known g (binary op s t a b) =
     known_with (tree_known g a) (λ j. known_with (tree_known g b) (λ k. values.operated op t j k))
 
--- a table with a layout's types, as if each variable were a scalar
+-- a table with a layout's types, as if each slot were a scalar
 abbrev pub kind_of : IntType → Kind
 kind_of t = record { int_type = t; length = None }
 
 abbrev pub kinds_of : Layout → Kinds
 kinds_of l = map kind_of l.types
 
--- a layout has the types of a table, and an octagon over scalars
+-- a layout has the slots of a table, and an octagon over scalars
 pub record IsOver (ks : Kinds) (l : Layout) : Type 0 where
-  pub size : length ks ≡ length l.types
-  pub types : (x : ℕ) → x < length ks → type_at l x ≡ kinds.type_at ks x
-  pub scalars : (k : ℕ) → k < length l.chosen → (kind_at ks (chosen_at l k)).length ≡ None
+  pub types : l.types ≡ slot_types ks
+  pub further : l.further ≡ further_of ks
+  pub scalars : (k : ℕ) → k < length l.chosen → IsScalar ks (chosen_at l k)
 
 -- What is typed in a table is so in a layout over it, and where a typed tree has a value in a store of a state, it is one of the numbers that are known of it.
 pub record TreesAreSound : Type 0 where

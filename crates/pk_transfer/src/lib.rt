@@ -12,7 +12,7 @@ mod transfers;
 mod trees;
 
 pub use assumptions::guard;
-pub use frames::frame;
+pub use frames::{frame, further_count, is_small};
 pub use guards::refine;
 pub use laws::{
     assignments_law, forms_law, graphs_law, guards_law, passing_law, transfers_law, trees_law,

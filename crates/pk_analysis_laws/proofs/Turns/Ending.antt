@@ -1,11 +1,10 @@
 -- The analysis of a graph ends.
 use Rattle.std.specs.Prelude.{◌≡◌, ◌≤◌, ℕ, ℤ, List, length}
 use Rattle.std.proofs.Common.{◌∙◌, ap, sym, subst, refl}
-use Rattle.std.proofs.lemmas.List.{length-map}
-use Rattle.pk_graph.specs.Kinds.{Kind}
-use Rattle.pk_graph.specs.Graphs.{VariableOf, GraphOf, kinds_of}
+use Rattle.pk_graph.specs.Graphs.{GraphOf, kinds_of}
 use Rattle.pk_graph.specs.OctagonVariables.{octagon_variables_of}
 use Rattle.pk_state.specs.Layouts.{Layout}
+use Rattle.pk_transfer.specs.Slots.{slot_types}
 use Rattle.pk_transfer.specs.Graphs.{layout_of}
 use Rattle.pk_thresh.specs.Thresholds.{AreThresholds}
 use Rattle.pk_thresh.specs.Chains.{chain_bound_of, IsChainBound}
@@ -31,16 +30,14 @@ stated_ranks l thresholds = record {
 }
 
 -- the bound of the graph's layout is that of the graph
-bound_is : (g : GraphOf) (oct : ℕ) (l : Layout) (ts : List ℤ) → l ≡ layout_of g oct → bound_of l ts ≡ chain_bound_of (length g.variables) (length ts) (length (octagon_variables_of g oct))
-bound_is g oct l ts is =
-    ap (λ (y : Layout). bound_of y ts) is
-    ∙ ap (λ (n : ℕ). chain_bound_of n (length ts) (length (octagon_variables_of g oct))) (length-map (kinds_of g) (λ (k : Kind). k.int_type) ∙ length-map g.variables (λ (x : VariableOf). x.kind))
+bound_is : (g : GraphOf) (oct : ℕ) (l : Layout) (ts : List ℤ) → l ≡ layout_of g oct → bound_of l ts ≡ chain_bound_of (length (slot_types (kinds_of g))) (length ts) (length (octagon_variables_of g oct))
+bound_is g oct l ts is = ap (λ (y : Layout). bound_of y ts) is
 
 -- and so is that of any layout and thresholds of it
 bound_at : (g : GraphOf) (oct chain : ℕ) (l : Layout) (ts : List ℤ) → IsChainBound g oct chain → l ≡ layout_of g oct → AreThresholds g ts → bound_of l ts ≡ chain
 bound_at g oct chain l ts bound is are =
     bound_is g oct l ts is
-    ∙ ap (λ (us : List ℤ). chain_bound_of (length g.variables) (length us) (length (octagon_variables_of g oct))) (thresholds_same g ts bound.0 are bound.1) ∙ sym bound.2
+    ∙ ap (λ (us : List ℤ). chain_bound_of (length (slot_types (kinds_of g))) (length us) (length (octagon_variables_of g oct))) (thresholds_same g ts bound.0 are bound.1) ∙ sym bound.2
 
 pub graph_chains_end : GraphChainsEnd
 graph_chains_end g oct chain ts h ns bound are f c =

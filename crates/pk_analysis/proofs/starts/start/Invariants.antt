@@ -2,5 +2,5 @@ use Rattle.pk_graph.specs.Shown.{graph_view}
 use Rattle.pk_analysis.proofs.StartLemmas.{IsStartedTo}
 use Rattle.pk_analysis.proofs.starts.start.Given as goal
 
-abbrev pub invariant-loop-x : goal.invariant-loop-x
-invariant-loop-x l = IsStartedTo (graph_view l.graph) l.frame l.x l.state
+abbrev pub invariant-loop-j : goal.invariant-loop-j
+invariant-loop-j l = IsStartedTo (graph_view l.graph) l.frame l.j l.state
