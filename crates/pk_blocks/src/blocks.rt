@@ -152,7 +152,8 @@ impl<T: Item> Blocks<T> {
         requires place { i < length self.now }
         requires first { i % 16 ≡ 0 }
         ensures size { length result.now ≡ 16 }
-        ensures items { (r : ℕ) → r < 16 → i + r < length self.now → slice_get result.now r ≡ slice_get self.now (i + r) }
+        ensures items { (r : ℕ) → r < 16 → i + r < length self.now →
+            slice_get result.now r ≡ slice_get self.now (i + r) }
     {
         self.groups[i / GROUP].row(i % GROUP)
     }

@@ -10,14 +10,14 @@ ghost use Rattle.pk_cert.specs.Beginnings.{TextsOf};
 ghost use Rattle.pk_cert.specs.Heads.{head_view};
 ghost use Rattle.pk_cert.specs.Rows.{Line, IsLine, line_text, AreLines, lines_text, row_view, seen_line};
 ghost use Rattle.pk_cert.specs.Pieces.{IsHeadRead, StopsAt};
-ghost use Rattle.pk_cert_states.specs.Lines.{line_of, shape_of};
+ghost use Rattle.pk_cert_states.specs.Lines.{line_slots, line_of, shape_of};
 ghost use Rattle.pk_cert_lines.specs.Told.{IsTold};
 ghost use Rattle.pk_cert_cells.specs.Reading.{AreReadCells, IsUnfit, AreCellsOf, AreCellsRead, IsNextRead};
 
 use crate::failures::Unfit;
 use pk_cert::{Head, Row, Shape, Unread, read_row};
 use pk_cert_lines::{Told, read_alike, told_of};
-use pk_cert_states::state_of;
+use pk_cert_states::{Order, state_of};
 use pk_graph::Graph;
 use pk_phases::Cell;
 use pk_state::{Frame, State};
@@ -29,16 +29,18 @@ fn keep<'f>(
     alloc: Global,
     graph: &Graph,
     frame: &'f Frame,
+    order: &Order,
     told: &mut Told<'f>,
     state: &State<'f>,
 ) -> Result<(), AllocError>
     requires frame { (oct : ℕ) × (frame.now ≡ layout_of (graph_view graph.now) oct) }
+    requires order { order.now ≡ line_slots (kinds_of (graph_view graph.now)) }
     requires told { IsTold (kinds_of (graph_view graph.now)) frame.now told.old }
     requires state { state.now.layout ≡ frame.now }
     ensures { OnOk result (IsTold (kinds_of (graph_view graph.now)) frame.now told.new) }
 {
     if !state.is_bottom() {
-        *told = told_of(alloc, graph, frame, state.copy(alloc)?)?;
+        *told = told_of(alloc, graph, frame, order, state.copy(alloc)?)?;
     }
     Ok(())
 }
@@ -67,12 +69,14 @@ fn add_cell<'f>(
     alloc: Global,
     graph: &Graph,
     frame: &'f Frame,
+    order: &Order,
     cells: &mut Vec<Arc<Cell<State<'f>>>>,
     told: &mut Told<'f>,
     row: &Row,
     k: usize,
 ) -> Result<(), AllocError>
     requires frame { (oct : ℕ) × (frame.now ≡ layout_of (graph_view graph.now) oct) }
+    requires order { order.now ≡ line_slots (kinds_of (graph_view graph.now)) }
     requires told { IsTold (kinds_of (graph_view graph.now)) frame.now told.old }
     ensures told { OnOk result (IsTold (kinds_of (graph_view graph.now)) frame.now told.new) }
     ensures cells { let ks = kinds_of (graph_view graph.now) in
@@ -84,11 +88,11 @@ fn add_cell<'f>(
     if cells.len() != k {
         return Ok(());
     }
-    match state_of(alloc, graph, frame, row, &told.state)? {
+    match state_of(alloc, graph, frame, order, row, &told.state)? {
         None => Ok(()),
         Some(state) => {
             state.is_stated();
-            keep(alloc, graph, frame, told, &state)?;
+            keep(alloc, graph, frame, order, told, &state)?;
             cells.push(Arc::new(alloc, Cell::Value(state))?)?;
             Ok(())
         }
@@ -101,12 +105,14 @@ fn read_alone<'f>(
     bytes: &[u8],
     graph: &Graph,
     frame: &'f Frame,
+    order: &Order,
     shape: Shape,
     cells: &mut Vec<Arc<Cell<State<'f>>>>,
     told: &mut Told<'f>,
     k: usize,
 ) -> Result<usize, Unread>
     requires frame { (oct : ℕ) × (frame.now ≡ layout_of (graph_view graph.now) oct) }
+    requires order { order.now ≡ line_slots (kinds_of (graph_view graph.now)) }
     requires size { shape.numbers + shape.bounds < 2 ^ 64 }
     requires told { IsTold (kinds_of (graph_view graph.now)) frame.now told.old }
     ensures told { OnOk result (IsTold (kinds_of (graph_view graph.now)) frame.now told.new) }
@@ -118,7 +124,7 @@ fn read_alone<'f>(
     match read_row(alloc, bytes, shape) {
         Err(e) => Err(e),
         Ok((row, n)) => {
-            add_cell(alloc, graph, frame, cells, told, &row, k)?;
+            add_cell(alloc, graph, frame, order, cells, told, &row, k)?;
             Ok(n)
         }
     }
@@ -130,12 +136,14 @@ fn read_next<'f>(
     bytes: &[u8],
     graph: &Graph,
     frame: &'f Frame,
+    order: &Order,
     shape: Shape,
     cells: &mut Vec<Arc<Cell<State<'f>>>>,
     told: &mut Told<'f>,
     k: usize,
 ) -> Result<usize, Unread>
     requires frame { (oct : ℕ) × (frame.now ≡ layout_of (graph_view graph.now) oct) }
+    requires order { order.now ≡ line_slots (kinds_of (graph_view graph.now)) }
     requires size { shape.numbers + shape.bounds < 2 ^ 64 }
     requires shape { shape ≡ shape_of (kinds_of (graph_view graph.now)) frame.now }
     requires told { IsTold (kinds_of (graph_view graph.now)) frame.now told.old }
@@ -145,8 +153,8 @@ fn read_next<'f>(
         (map arc_value cells.old.items) (map arc_value cells.new.items) n)
         (λ e. StopsAt (TextsOf (IsLine shape) line_text) bytes.now e) }
 {
-    match read_alike(alloc, graph, frame, told, bytes)? {
-        None => read_alone(alloc, bytes, graph, frame, shape, cells, told, k),
+    match read_alike(alloc, graph, frame, order, told, bytes)? {
+        None => read_alone(alloc, bytes, graph, frame, order, shape, cells, told, k),
         Some(n) => {
             told.state.is_stated();
             add_told(alloc, cells, &told.state, k)?;
@@ -161,9 +169,11 @@ fn cells_of<'f>(
     bytes: &[u8],
     graph: &Graph,
     frame: &'f Frame,
+    order: &Order,
     shape: Shape,
 ) -> Result<(Vec<Arc<Cell<State<'f>>>>, usize), Unread>
     requires frame { (oct : ℕ) × (frame.now ≡ layout_of (graph_view graph.now) oct) }
+    requires order { order.now ≡ line_slots (kinds_of (graph_view graph.now)) }
     requires size { shape.numbers + shape.bounds < 2 ^ 64 }
     requires shape { shape ≡ shape_of (kinds_of (graph_view graph.now)) frame.now }
     ensures { let points = length (graph_view graph.now).points in MatchResult result
@@ -172,7 +182,7 @@ fn cells_of<'f>(
         (λ e. StopsAt (TextsOf (AreLines shape points) lines_text) bytes.now e) }
 {
     let mut cells = Vec::new(alloc);
-    let mut told = told_of(alloc, graph, frame, State::bottom(frame))?;
+    let mut told = told_of(alloc, graph, frame, order, State::bottom(frame))?;
     let mut at = 0;
     for k in 0..graph.points() {
         match read_next(
@@ -180,6 +190,7 @@ fn cells_of<'f>(
             &bytes[at..],
             graph,
             frame,
+            order,
             shape,
             &mut cells,
             &mut told,
@@ -194,18 +205,20 @@ fn cells_of<'f>(
 }
 
 // How many numbers and bounds the lines of a graph have, if these can be counted.
-fn shape(graph: &Graph, frame: &Frame) -> Option<Shape>
+fn shape(graph: &Graph, frame: &Frame, order: &Order) -> Option<Shape>
+    requires { order.now ≡ line_slots (kinds_of (graph_view graph.now)) }
     ensures { MatchOption result ℕ (λ s. (s ≡ shape_of (kinds_of (graph_view graph.now)) frame.now)
         × (s.numbers + s.bounds < 2 ^ 64)) }
 {
+    let _ = graph;
     frame.is_layout();
-    let variables = graph.variables().len();
-    if variables >= 1 << 31 {
+    let slots = order.len();
+    if slots >= 1 << 31 {
         return None;
     }
     let d = 2 * frame.octagon_len();
     Some(Shape {
-        numbers: 4 * variables,
+        numbers: 4 * slots,
         bounds: d * d,
     })
 }
@@ -225,9 +238,10 @@ pub fn read_cells<'f>(
         (λ cells. AreReadCells (graph_view graph.now) (head_view head.now) bytes.now (map arc_value cells.items))
         (IsUnfit (graph_view graph.now) (head_view head.now) bytes.now) }
 {
-    match shape(graph, frame) {
+    let order = Order::new(alloc, graph, frame)?;
+    match shape(graph, frame, &order) {
         None => Err(Unfit::Memory),
-        Some(shape) => match cells_of(alloc, &bytes[head.len..], graph, frame, shape) {
+        Some(shape) => match cells_of(alloc, &bytes[head.len..], graph, frame, &order, shape) {
             Err(Unread::Byte(n)) => Err(Unfit::Byte(head.len + n)),
             Err(Unread::Memory) => Err(Unfit::Memory),
             Ok((cells, n)) => {

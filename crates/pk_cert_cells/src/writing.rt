@@ -5,13 +5,14 @@ ghost use Rattle.pk_graph.specs.Graphs.{kinds_of};
 ghost use Rattle.pk_graph.specs.Shown.{graph_view};
 ghost use Rattle.pk_transfer.specs.Graphs.{layout_of};
 ghost use Rattle.pk_cert.specs.Rows.{line_text, lines_text};
-ghost use Rattle.pk_cert_states.specs.Lines.{line_of};
+ghost use Rattle.pk_cert_states.specs.Lines.{line_slots, line_of};
 ghost use Rattle.pk_cert_lines.specs.Told.{IsTold};
 ghost use Rattle.pk_cert_cells.specs.Cells.{state_in, facts_in, AreCells, head_of, cells_text, most_bytes, IsUnwritten};
 
 use crate::failures::Unwritten;
 use crate::heads::write_head;
 use pk_cert_lines::{Told, told_of, write_line};
+use pk_cert_states::Order;
 use pk_graph::Graph;
 use pk_iterate::Cells;
 use pk_phases::Cell;
@@ -27,10 +28,12 @@ fn write_cell<'f>(
     bytes: &mut Vec<u8>,
     graph: &Graph,
     frame: &Frame,
+    order: &Order,
     told: &mut Told<'f>,
     cell: &Cell<State<'f>>,
 ) -> Result<(), AllocError>
     requires frame { (oct : ℕ) × (frame.now ≡ layout_of (graph_view graph.now) oct) }
+    requires order { order.now ≡ line_slots (kinds_of (graph_view graph.now)) }
     requires told { IsTold (kinds_of (graph_view graph.now)) frame.now told.old }
     requires over { (state_in frame.now cell.now).layout ≡ frame.now }
     ensures told { OnOk result (IsTold (kinds_of (graph_view graph.now)) frame.now told.new) }
@@ -38,7 +41,7 @@ fn write_cell<'f>(
         ++ line_text (line_of (kinds_of (graph_view graph.now)) (state_in frame.now cell.now).facts)) }
 {
     match cell {
-        Cell::Value(state) => write_line(alloc, bytes, graph, frame, told, state),
+        Cell::Value(state) => write_line(alloc, bytes, graph, frame, order, told, state),
         Cell::Exit(_) => bytes.extend_from_slice(b"bot\n"),
     }
 }
@@ -49,10 +52,12 @@ fn write_cells<'f>(
     bytes: &mut Vec<u8>,
     graph: &Graph,
     frame: &Frame,
+    order: &Order,
     told: &mut Told<'f>,
     cells: &Cells<Cell<State<'f>>>,
 ) -> Result<(), Unwritten>
     requires frame { (oct : ℕ) × (frame.now ≡ layout_of (graph_view graph.now) oct) }
+    requires order { order.now ≡ line_slots (kinds_of (graph_view graph.now)) }
     requires told { IsTold (kinds_of (graph_view graph.now)) frame.now told.old }
     requires cells { AreCells frame.now (length (graph_view graph.now).points) cells.now.cells }
     ensures { let known = facts_in frame.now (length (graph_view graph.now).points) cells.now.cells in
@@ -64,7 +69,15 @@ fn write_cells<'f>(
         if bytes.len() > MOST_BYTES {
             return Err(Unwritten::Limit);
         }
-        write_cell(alloc, bytes, graph, frame, told, cells.cell(v as u32))?;
+        write_cell(
+            alloc,
+            bytes,
+            graph,
+            frame,
+            order,
+            told,
+            cells.cell(v as u32),
+        )?;
     }
     if bytes.len() > MOST_BYTES {
         Err(Unwritten::Limit)
@@ -90,10 +103,11 @@ pub fn write<'f>(
     ensures { let all = cells_text (graph_view graph.now) (head_of text.now oct entry.now) cells.now.cells in
         MatchResult result (λ bytes. (bytes.items ≡ all) × (length all ≤ most_bytes)) (IsUnwritten all) }
 {
-    let mut told = told_of(alloc, graph, frame, State::bottom(frame))?;
+    let order = Order::new(alloc, graph, frame)?;
+    let mut told = told_of(alloc, graph, frame, &order, State::bottom(frame))?;
     let mut bytes = Vec::new(alloc);
     write_head(&mut bytes, text, oct, entry)?;
-    match write_cells(alloc, &mut bytes, graph, frame, &mut told, cells) {
+    match write_cells(alloc, &mut bytes, graph, frame, &order, &mut told, cells) {
         Err(e) => Err(e),
         Ok(()) => Ok(bytes),
     }

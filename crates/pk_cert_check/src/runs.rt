@@ -43,7 +43,8 @@ pub(crate) fn run<'f>(
     v: u32,
 ) -> Result<Cell<State<'f>>, AllocError>
     requires points { HasPointsAlone analysis.now }
-    requires cells { HoldStates analysis.now.layout (length (graph_view analysis.now.graph).points) (map arc_value cells.now) }
+    requires cells { HoldStates analysis.now.layout (length (graph_view analysis.now.graph).points)
+        (map arc_value cells.now) }
     ensures { let a = analysis.now in IfOk result (λ c. c ≡ Value (stated a.layout
         (given_on (graph_view a.graph) a.layout (known_by a.layout (map arc_value cells.now)) v))) }
 {

@@ -1,18 +1,19 @@
 -- Texts in parts, one behind the other.
-use Rattle.std.specs.Prelude.{◌≡◌, ℕ, zero, suc, ◌+◌, ◌-◌, ◌*◌, ◌<◌, Bool, true, false, not, if◌then◌else◌, ℤ, List, [], ◌∷◌, ◌++◌, length, take, drop, sum, slice_index, slice_set, Option}
+use Rattle.std.specs.Prelude.{◌≡◌, ◌⊎◌, ℕ, zero, suc, ◌+◌, ◌-◌, ◌<◌, List, [], ◌∷◌, ◌++◌, length, take, drop, sum, slice_index, slice_index_or, slice_set}
 use Rattle.std.specs.List.{concat}
-use Rattle.std.proofs.Common.{arith, refl, sym, ap, ◌∙◌, append_assoc, zero-add, take_at, drop_at, take-add, drop-drop}
-use Rattle.std.proofs.lemmas.List.{length-append, length-map, map-append, map-set, append-nil, set-append_left, set-append_right}
+use Rattle.std.proofs.Common.{arith, refl, sym, ap, ◌∙◌, inl, inr, append_assoc, zero-add, take_at, drop_at, take-add, drop-drop, take-suc, ext_get_or}
+use Rattle.std.proofs.lemmas.Bool.{cases_eq}
+use Rattle.std.proofs.lemmas.Grind.{get_or-set_at}
+use Rattle.std.proofs.lemmas.List.{length-append, length-map, length-set, map-append, map-set, append-nil, get_or-map, get_or-set_other, set-append_left, set-append_right}
 use Rattle.std.proofs.lemmas.List.Folds.{concat-append}
 use Rattle.std.proofs.lemmas.List.Sums.{sum_by-cons}
-use Rattle.pk_graph.specs.Kinds.{Kinds, kind_at}
-use Rattle.pk_value.specs.Known.{Known}
-use Rattle.pk_state.specs.Facts.{Facts}
-use Rattle.pk_cert_states.specs.Lines.{four_of, is_one_of, fours_of, symbols_of}
-use Rattle.pk_cert_states.specs.Parts.{known_at}
-use Rattle.pk_cert_states.proofs.Fours.{other_kind}
+use Rattle.pk_ctypes.specs.declared.types.IntType.TheVariants.{Int}
+use Rattle.pk_value.specs.Known.{Known, any_of}
+use Rattle.pk_state.specs.Facts.{Facts, known_at}
+use Rattle.pk_cert_states.specs.Lines.{four_of, fours_at, symbols_in}
+use Rattle.pk_cert_states.specs.Parts.{slot_at, IsOrder}
 use Rattle.pk_cert_lines.specs.Symbols.{spaced}
-use Rattle.pk_cert_lines.specs.Told.{texts_of, parts_of, sizes_of, AreParts}
+use Rattle.pk_cert_lines.specs.Told.{texts_at, parts_in, sizes_of, AreParts}
 use Rattle.pk_cert_lines.proofs.Spacing.{spaced_joined}
 
 -- ---- parts
@@ -72,93 +73,71 @@ parts_put parts bytes sizes p part h there = record {
 
 -- ---- the parts of a state's text
 
-abbrev four_if : Bool → Known → List (Option ℤ)
-four_if b v = if b then four_of v else []
+pub texts_length : (slots : List ℕ) (vs : List Known) → length (texts_at slots vs) ≡ length slots
+texts_length slots vs = length-map slots (λ j. spaced (four_of (known_at vs j)))
 
-pub texts_length : (a : Bool) (ks : Kinds) (vs : List Known) → length vs ≡ length ks → length (texts_of a ks vs) ≡ length ks
-texts_length a [] vs e = refl
-texts_length a (k ∷ ks) [] e = absurd (omega (arith, e))
-texts_length a (k ∷ ks) (v ∷ vs) e = omega (arith, texts_length a ks vs (omega (arith, e)))
+-- one more place
+pub texts_more : (p : ℕ) (slots : List ℕ) (vs : List Known) → p < length slots → take (p + 1) (texts_at slots vs) ≡ take p (texts_at slots vs) ++ spaced (four_of (known_at vs (slot_at slots p))) ∷ []
+texts_more p slots vs h =
+    let up : p + 1 ≡ suc p = omega arith in
+    let there : p < length (texts_at slots vs) = omega (arith, h, texts_length slots vs) in
+    ap (λ n. take n (texts_at slots vs)) up ∙ take-suc (texts_at slots vs) p [] there
+    ∙ ap (λ (t : List ℕ). take p (texts_at slots vs) ++ t ∷ []) (get_or-map (λ j. spaced (four_of (known_at vs j))) slots p 0 [] h)
 
--- one more variable
-pub texts_more : (a : Bool) (x : ℕ) (ks : Kinds) (vs : List Known) → x < length ks → length vs ≡ length ks
-    → take (suc x) (texts_of a ks vs) ≡ take x (texts_of a ks vs) ++ spaced (four_if (is_one_of a (kind_at ks x)) (known_at vs x)) ∷ []
-texts_more a x [] vs h e = absurd (omega (arith, h))
-texts_more a x (k ∷ ks) [] h e = absurd (omega (arith, e))
-texts_more a zero (k ∷ ks) (v ∷ vs) h e = refl
-texts_more a (suc x) (k ∷ ks) (v ∷ vs) h e = ap (λ (r : List (List ℕ)). spaced (four_if (is_one_of a k) v) ∷ r) (texts_more a x ks vs (omega (arith, h)) (omega (arith, e)))
-
-texts_joined : (a : Bool) (ks : Kinds) (vs : List Known) → concat (texts_of a ks vs) ≡ spaced (fours_of a ks vs)
-texts_joined a [] vs = refl
-texts_joined a (k ∷ ks) [] = refl
-texts_joined a (k ∷ ks) (v ∷ vs) =
-    ap (λ (r : List ℕ). spaced (four_if (is_one_of a k) v) ++ r) (texts_joined a ks vs) ∙ sym (spaced_joined (four_if (is_one_of a k) v) (fours_of a ks vs))
+texts_joined : (slots : List ℕ) (vs : List Known) → concat (texts_at slots vs) ≡ spaced (fours_at slots vs)
+texts_joined [] vs = refl
+texts_joined (j ∷ js) vs = ap (λ (r : List ℕ). spaced (four_of (known_at vs j)) ++ r) (texts_joined js vs) ∙ sym (spaced_joined (four_of (known_at vs j)) (fours_at js vs))
 
 -- they are the text of the symbols
-pub parts_joined : (ks : Kinds) (f : Facts) → concat (parts_of ks f) ≡ spaced (symbols_of ks f)
-unfolding parts_of
-parts_joined ks f =
-    concat-append (texts_of false ks f.values) (texts_of true ks f.values ++ spaced f.octagon.cells ∷ [])
-    ∙ ap (λ (r : List ℕ). concat (texts_of false ks f.values) ++ r)
-    (concat-append (texts_of true ks f.values) (spaced f.octagon.cells ∷ []) ∙ ap (λ (r : List ℕ). concat (texts_of true ks f.values) ++ r) (append-nil (spaced f.octagon.cells))
-    ∙ ap (λ (r : List ℕ). r ++ spaced f.octagon.cells) (texts_joined true ks f.values) ∙ sym (spaced_joined (fours_of true ks f.values) f.octagon.cells))
-    ∙ ap (λ (r : List ℕ). r ++ spaced (fours_of true ks f.values ++ f.octagon.cells)) (texts_joined false ks f.values)
-    ∙ sym (spaced_joined (fours_of false ks f.values) (fours_of true ks f.values ++ f.octagon.cells))
+pub parts_joined : (slots : List ℕ) (f : Facts) → concat (parts_in slots f) ≡ spaced (symbols_in slots f)
+unfolding parts_in
+parts_joined slots f =
+    concat-append (texts_at slots f.values) (spaced f.octagon.cells ∷ []) ∙ ap (λ (r : List ℕ). concat (texts_at slots f.values) ++ r) (append-nil (spaced f.octagon.cells))
+    ∙ ap (λ (r : List ℕ). r ++ spaced f.octagon.cells) (texts_joined slots f.values) ∙ sym (spaced_joined (fours_at slots f.values) f.octagon.cells)
 
--- ---- another value of a variable
+pub parts_many : (slots : List ℕ) (f : Facts) → length (parts_in slots f) ≡ length slots + 1
+unfolding parts_in
+parts_many slots f = omega (arith, length-append (texts_at slots f.values) (spaced f.octagon.cells ∷ []), texts_length slots f.values)
 
-texts_set : (a : Bool) (x : ℕ) (ks : Kinds) (vs : List Known) (v : Known) → x < length ks → length vs ≡ length ks → is_one_of a (kind_at ks x) ≡ true
-    → texts_of a ks (slice_set vs x v) ≡ slice_set (texts_of a ks vs) x (spaced (four_of v))
-texts_set a x [] vs v h e is = absurd (omega (arith, h))
-texts_set a x (k ∷ ks) [] v h e is = absurd (omega (arith, e))
-texts_set a zero (k ∷ ks) (w ∷ vs) v h e is = ap (λ (b : Bool). spaced (four_if b v) ∷ texts_of a ks vs) is
-texts_set a (suc x) (k ∷ ks) (w ∷ vs) v h e is = ap (λ (r : List (List ℕ)). spaced (four_if (is_one_of a k) w) ∷ r) (texts_set a x ks vs v (omega (arith, h)) (omega (arith, e)) is)
+-- ---- another value of a slot
 
-texts_other : (a : Bool) (x : ℕ) (ks : Kinds) (vs : List Known) (v : Known) → is_one_of a (kind_at ks x) ≡ false → texts_of a ks (slice_set vs x v) ≡ texts_of a ks vs
-texts_other a x [] vs v is = refl
-texts_other a x (k ∷ ks) [] v is = refl
-texts_other a zero (k ∷ ks) (w ∷ vs) v is = ap (λ (b : Bool). spaced (four_if b v) ∷ texts_of a ks vs) is ∙ ap (λ (b : Bool). spaced (four_if b w) ∷ texts_of a ks vs) (sym is)
-texts_other a (suc x) (k ∷ ks) (w ∷ vs) v is = ap (λ (r : List (List ℕ)). spaced (four_if (is_one_of a k) w) ∷ r) (texts_other a x ks vs v is)
+-- where each slot stands at one place, only the text at its place changes
+texts_set : (slots : List ℕ) (vs : List Known) (p : ℕ) (v : Known) → IsOrder slots → length vs ≡ length slots → p < length slots → texts_at slots (slice_set vs (slot_at slots p) v) ≡ slice_set (texts_at slots vs) p (spaced (four_of v))
+texts_set slots vs p v order same h =
+    ext_get_or [] (texts_at slots now) (slice_set (texts_at slots vs) p (spaced (four_of v))) (texts_length slots now ∙ sym (texts_length slots vs) ∙ sym (length-set (texts_at slots vs) p (spaced (four_of v))))
+    (λ q l.
+    let below : q < length slots = omega (arith, l, texts_length slots now) in
+    get_or-map (λ j. spaced (four_of (known_at now j))) slots q 0 [] below ∙ at q below (cases_eq q p))
+  where
+    now : List Known
+    now = slice_set vs (slot_at slots p) v
+
+    at : (q : ℕ) → q < length slots → (q ≡ p) ⊎ (q ≡ p → ⊥) → spaced (four_of (known_at (slice_set vs (slot_at slots p) v) (slot_at slots q))) ≡ slice_index_or (slice_set (texts_at slots vs) p (spaced (four_of v))) q []
+    at q below (inl e) =
+        ap (λ (k : Known). spaced (four_of k)) (get_or-set_at vs (slot_at slots p) (slot_at slots q) v (any_of Int) (ap (slot_at slots) e) (omega (arith, order.below p h, same)))
+        ∙ sym (get_or-set_at (texts_at slots vs) p q (spaced (four_of v)) [] e (omega (arith, h, texts_length slots vs)))
+    at q below (inr other) =
+        ap (λ (k : Known). spaced (four_of k)) (get_or-set_other vs (slot_at slots p) (slot_at slots q) v (any_of Int) (λ e. other (order.once q p below h e)))
+        ∙ sym (get_or-map (λ j. spaced (four_of (known_at vs j))) slots q 0 [] below)
+        ∙ sym (get_or-set_other (texts_at slots vs) p q (spaced (four_of v)) [] other)
 
 abbrev pub with_value : Facts → ℕ → Known → Facts
-with_value f x v = record { values = slice_set f.values x v; octagon = f.octagon }
+with_value f j v = record { values = slice_set f.values j v; octagon = f.octagon }
 
-pub parts_known : (ks : Kinds) (f : Facts) (x : ℕ) (v : Known) (p : ℕ) → x < length ks → length f.values ≡ length ks → p ≡ (if is_one_of true (kind_at ks x) then length ks + x else x)
-    → parts_of ks (with_value f x v) ≡ slice_set (parts_of ks f) p (spaced (four_of v))
-unfolding parts_of
-parts_known ks f x v p h e at = by (is_one_of true (kind_at ks x)) refl
-  where
-    by : (b : Bool) → is_one_of true (kind_at ks x) ≡ b → texts_of false ks (slice_set f.values x v) ++ (texts_of true ks (slice_set f.values x v) ++ spaced f.octagon.cells ∷ []) ≡ slice_set (texts_of false ks f.values ++ (texts_of true ks f.values ++ spaced f.octagon.cells ∷ [])) p (spaced (four_of v))
-    by true is =
-        let none : is_one_of false (kind_at ks x) ≡ false = other_kind true (kind_at ks x) ∙ ap not is in
-        let place : p ≡ length ks + x = at ∙ ap (λ (b : Bool). if b then length ks + x else x) is in
-        let back : p - length ks ≡ x = omega (arith, place) in
-        ap (λ (r : List (List ℕ)). r ++ (texts_of true ks (slice_set f.values x v) ++ spaced f.octagon.cells ∷ [])) (texts_other false x ks f.values v none)
-        ∙ ap (λ (r : List (List ℕ)). texts_of false ks f.values ++ (r ++ spaced f.octagon.cells ∷ [])) (texts_set true x ks f.values v h e is)
-        ∙ ap (λ (r : List (List ℕ)). texts_of false ks f.values ++ r) (sym (set-append_left (texts_of true ks f.values) (spaced f.octagon.cells ∷ []) x (spaced (four_of v)) (omega (arith, h, texts_length true ks f.values e))))
-        ∙ ap (λ (i : ℕ). texts_of false ks f.values ++ slice_set (texts_of true ks f.values ++ spaced f.octagon.cells ∷ []) i (spaced (four_of v))) (sym back)
-        ∙ sym (set-append_right (texts_of false ks f.values) (texts_of true ks f.values ++ spaced f.octagon.cells ∷ []) (length ks) p (spaced (four_of v)) (texts_length false ks f.values e) (omega (arith, place)))
-    by false is =
-        let some : is_one_of false (kind_at ks x) ≡ true = other_kind true (kind_at ks x) ∙ ap not is in
-        let place : p ≡ x = at ∙ ap (λ (b : Bool). if b then length ks + x else x) is in
-        ap (λ (r : List (List ℕ)). texts_of false ks (slice_set f.values x v) ++ (r ++ spaced f.octagon.cells ∷ [])) (texts_other true x ks f.values v is)
-        ∙ ap (λ (r : List (List ℕ)). r ++ (texts_of true ks f.values ++ spaced f.octagon.cells ∷ [])) (texts_set false x ks f.values v h e some)
-        ∙ sym (set-append_left (texts_of false ks f.values) (texts_of true ks f.values ++ spaced f.octagon.cells ∷ []) x (spaced (four_of v)) (omega (arith, h, texts_length false ks f.values e)))
-        ∙ ap (λ (i : ℕ). slice_set (texts_of false ks f.values ++ (texts_of true ks f.values ++ spaced f.octagon.cells ∷ [])) i (spaced (four_of v))) (sym place)
-
-pub parts_many : (ks : Kinds) (f : Facts) → length f.values ≡ length ks → length (parts_of ks f) ≡ 2 * length ks + 1
-unfolding parts_of
-parts_many ks f e =
-    let one = length-append (texts_of true ks f.values) (spaced f.octagon.cells ∷ []) in
-    omega (arith, length-append (texts_of false ks f.values) (texts_of true ks f.values ++ spaced f.octagon.cells ∷ []), one, texts_length false ks f.values e, texts_length true ks f.values e)
+pub parts_known : (slots : List ℕ) (f : Facts) (j : ℕ) (v : Known) (p : ℕ) → IsOrder slots → length f.values ≡ length slots → p < length slots → slot_at slots p ≡ j
+    → parts_in slots (with_value f j v) ≡ slice_set (parts_in slots f) p (spaced (four_of v))
+unfolding parts_in
+parts_known slots f j v p order same h at =
+    ap (λ (i : ℕ). texts_at slots (slice_set f.values i v) ++ spaced f.octagon.cells ∷ []) (sym at)
+    ∙ ap (λ (r : List (List ℕ)). r ++ spaced f.octagon.cells ∷ []) (texts_set slots f.values p v order same h)
+    ∙ sym (set-append_left (texts_at slots f.values) (spaced f.octagon.cells ∷ []) p (spaced (four_of v)) (omega (arith, h, texts_length slots f.values)))
 
 -- ---- another octagon
 
-pub parts_bounded : (ks : Kinds) (f h : Facts) (p : ℕ) → h.values ≡ f.values → length f.values ≡ length ks → p ≡ 2 * length ks → parts_of ks h ≡ slice_set (parts_of ks f) p (spaced h.octagon.cells)
-unfolding parts_of
-parts_bounded ks f h p same e at =
-    let once : p - length ks - length ks ≡ 0 = omega (arith, at) in
-    ap (λ (vs : List Known). texts_of false ks vs ++ (texts_of true ks vs ++ spaced h.octagon.cells ∷ [])) same
-    ∙ ap (λ (i : ℕ). texts_of false ks f.values ++ (texts_of true ks f.values ++ slice_set (spaced f.octagon.cells ∷ []) i (spaced h.octagon.cells))) (sym once)
-    ∙ ap (λ (r : List (List ℕ)). texts_of false ks f.values ++ r) (sym (set-append_right (texts_of true ks f.values) (spaced f.octagon.cells ∷ []) (length ks) (p - length ks) (spaced h.octagon.cells) (texts_length true ks f.values e) (omega (arith, at))))
-    ∙ sym (set-append_right (texts_of false ks f.values) (texts_of true ks f.values ++ spaced f.octagon.cells ∷ []) (length ks) p (spaced h.octagon.cells) (texts_length false ks f.values e) (omega (arith, at)))
+pub parts_bounded : (slots : List ℕ) (f h : Facts) (p : ℕ) → h.values ≡ f.values → p ≡ length slots → parts_in slots h ≡ slice_set (parts_in slots f) p (spaced h.octagon.cells)
+unfolding parts_in
+parts_bounded slots f h p same at =
+    let last : p - length slots ≡ 0 = omega (arith, at) in
+    ap (λ (vs : List Known). texts_at slots vs ++ spaced h.octagon.cells ∷ []) same
+    ∙ ap (λ (i : ℕ). texts_at slots f.values ++ slice_set (spaced f.octagon.cells ∷ []) i (spaced h.octagon.cells)) (sym last)
+    ∙ sym (set-append_right (texts_at slots f.values) (spaced f.octagon.cells ∷ []) (length slots) p (spaced h.octagon.cells) (texts_length slots f.values) (omega (arith, at)))

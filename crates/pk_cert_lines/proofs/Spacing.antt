@@ -5,17 +5,13 @@ use Rattle.std.proofs.lemmas.Bool.Decides.{nat_tests}
 use Rattle.std.proofs.lemmas.Grind.{flat_map-append}
 use Rattle.std.proofs.lemmas.List.{length-append, append-nil}
 use Rattle.std.proofs.Math.Seq.{take-suc}
-use Rattle.pk_graph.specs.Kinds.{Kinds, kind_at}
-use Rattle.pk_value.specs.Known.{Known}
 use Rattle.pk_octmat.specs.Octagon.{entry}
 use Rattle.pk_octmat.proofs.Cells.{cell_in, place_in}
 use Rattle.pk_state.specs.Layouts.{Layout}
 use Rattle.pk_state.specs.Facts.{Facts, AreFactsIf}
-use Rattle.pk_state.specs.Changes.{known_in, bound_in}
+use Rattle.pk_state.specs.Changes.{bound_in}
 use Rattle.pk_cert.specs.Rows.{symbol_text, end_of, symbols_text}
-use Rattle.pk_cert_states.specs.Lines.{is_one_of, fours_of}
-use Rattle.pk_cert_states.proofs.Fours.{fours_more}
-use Rattle.pk_cert_lines.specs.Symbols.{spaced, values_in, cells_in, told_if}
+use Rattle.pk_cert_lines.specs.Symbols.{spaced, cells_in}
 
 abbrev one : Option ℤ → List ℕ
 one z = symbol_text z ++ 32 ∷ []
@@ -72,27 +68,6 @@ line_ended before bytes (z ∷ zs) n e h last =
     ap (λ (r : List ℕ). slice_set r n 10) whole
     ∙ last_set (before ++ but_last (z ∷ zs)) 32 10 n (omega (arith, last, ap (length {A = ℕ}) whole, length-append (before ++ but_last (z ∷ zs)) (32 ∷ [])))
     ∙ append_assoc before (but_last (z ∷ zs)) (10 ∷ []) ∙ ap (λ (r : List ℕ). before ++ r) (sym (ended_last z zs))
-
--- ---- variables
-
-none_told : (a : Bool) (ks : Kinds) → fours_of a ks [] ≡ []
-none_told a [] = refl
-none_told a (k ∷ ks) = refl
-
-take_none : (n : ℕ) → ◌≡◌ {A = List Known} (take n []) []
-take_none zero = refl
-take_none (suc n) = refl
-
--- one more variable
-pub values_more : (a : Bool) (l : Layout) (ks : Kinds) (o : Option Facts) (x : ℕ) → AreFactsIf l o → length l.types ≡ length ks → x < length ks
-    → fours_of a (take x ks) (take x (values_in o)) ++ told_if (is_one_of a (kind_at ks x)) (known_in o x) ≡ fours_of a (take (x + 1) ks) (take (x + 1) (values_in o))
-values_more a l ks None x h same p = append-nil (fours_of a (take x ks) (take x [])) ∙ step x ∙ sym (step (x + 1))
-  where
-    step : (n : ℕ) → fours_of a (take n ks) (take n []) ≡ []
-    step n = ap (λ (vs : List Known). fours_of a (take n ks) vs) (take_none n) ∙ none_told a (take n ks)
-values_more a l ks (Some f) x h same p =
-    let up : x + 1 ≡ suc x = omega arith in
-    sym (ap (λ (n : ℕ). fours_of a (take n ks) (take n f.values)) up ∙ fours_more a x ks f.values p (h.values.size ∙ same))
 
 -- ---- bounds
 

@@ -1,11 +1,9 @@
 -- The text of a state where it is told, and where a part of it is written over.
-use Rattle.std.specs.Prelude.{◌≡◌, ℕ, suc, ◌+◌, ◌-◌, ◌*◌, ◌<◌, ◌≤◌, Bool, true, false, if◌then◌else◌, ℤ, List, [], ◌∷◌, ◌++◌, map, length, take, drop, sum, slice_index, slice_set, Option, Some, None, IfSome}
+use Rattle.std.specs.Prelude.{◌≡◌, ℕ, suc, ◌+◌, ◌-◌, ◌*◌, ◌<◌, ◌≤◌, ℤ, List, [], ◌∷◌, ◌++◌, length, take, drop, sum, slice_index, slice_set, Option, Some, None, IfSome}
 use Rattle.std.proofs.Common.{arith, refl, sym, ap, subst, ◌∙◌, append_assoc, take-append-drop, take_at, take_all, drop-cons, ext_get_or, get_or-set_other, get_or-set_same, take-suc}
-use Rattle.std.proofs.lemmas.List.{length-append, length-map, append-nil}
+use Rattle.std.proofs.lemmas.List.{length-append, append-nil}
 use Rattle.pk_ctypes.specs.declared.types.IntType.TheVariants.{Int}
-use Rattle.pk_graph.specs.Kinds.{Kinds, kind_at}
-use Rattle.pk_graph.specs.declared.graphs.Variable.{Variable}
-use Rattle.pk_graph.specs.Graphs.{GraphOf, variable_view}
+use Rattle.pk_graph.specs.Graphs.{GraphOf, kinds_of}
 use Rattle.pk_value.specs.Known.{Known, any_of}
 use Rattle.pk_octmat.specs.Octagon.{Octagon}
 use Rattle.pk_octmat.specs.Laws.{OctagonsAreEntries}
@@ -15,42 +13,39 @@ use Rattle.pk_state.specs.Changes.{known_in, bound_in, with_known}
 use Rattle.pk_transfer.specs.Graphs.{layout_of}
 use Rattle.pk_cert.specs.Rows.{symbols_text, line_text}
 use Rattle.pk_cert.specs.Pieces.{AreFirst}
-use Rattle.pk_cert_states.specs.Lines.{four_of, is_one_of, symbols_of, line_of}
-use Rattle.pk_cert_states.proofs.Reading.{kinds_same}
+use Rattle.pk_cert_states.specs.Lines.{line_slots, four_of, symbols_in, line_in}
+use Rattle.pk_cert_states.specs.Parts.{slot_at, IsOrder}
 use Rattle.pk_cert_states.proofs.Telling.{as_many}
 use Rattle.pk_cert_lines.specs.declared.told.Told.{Told}
-use Rattle.pk_cert_lines.specs.Symbols.{spaced, told_if, values_in, cells_in}
-use Rattle.pk_cert_lines.specs.Told.{texts_of, parts_of, AreParts, IsTold, IsTextOf}
+use Rattle.pk_cert_lines.specs.Symbols.{spaced, four_in, values_in, cells_in}
+use Rattle.pk_cert_lines.specs.Told.{texts_at, parts_in, AreParts, IsToldIn, IsTextOf}
 use Rattle.pk_cert_lines.proofs.Spacing.{but_last, spaced_last, ended_last}
 use Rattle.pk_cert_lines.proofs.Parting.{parts_push, parts_put, parts_whole, parts_count, parts_many, parts_joined, parts_known, parts_bounded, texts_more, texts_length, with_value}
 
 pub parts_as : (parts : List (List ℕ)) (a b s r : List ℕ) → a ≡ b → s ≡ r → AreParts parts b r → AreParts parts a s
 parts_as parts a b s r e d h = record { joined = e ∙ h.joined; counted = d ∙ h.counted }
 
--- ---- variable by variable
+-- ---- value by value
 
 pub values_none : (parts ts : List (List ℕ)) (bytes sizes : List ℕ) → AreParts parts bytes sizes → AreParts (parts ++ take 0 ts) bytes sizes
 values_none parts ts bytes sizes h = subst (λ (ps : List (List ℕ)). AreParts ps bytes sizes) (sym (append-nil parts)) h
 
-pub values_on : (a : Bool) (l : Layout) (ks : Kinds) (o : Option Facts) (x : ℕ) (parts : List (List ℕ)) (bytes sizes : List ℕ) → AreFactsIf l o → (o ≡ None → ⊥) → length l.types ≡ length ks → x < length ks
-    → AreParts (parts ++ take x (texts_of a ks (values_in o))) bytes sizes
-    → AreParts (parts ++ take (x + 1) (texts_of a ks (values_in o))) (bytes ++ spaced (told_if (is_one_of a (kind_at ks x)) (known_in o x))) (sizes ++ length (spaced (told_if (is_one_of a (kind_at ks x)) (known_in o x))) ∷ [])
-values_on a l ks None x parts bytes sizes h some same p are = absurd (some refl)
-values_on a l ks (Some f) x parts bytes sizes h some same p are =
-    let up : x + 1 ≡ suc x = omega arith in
-    let part = spaced (told_if (is_one_of a (kind_at ks x)) (known_in (Some f) x)) in
-    let more : (parts ++ take x (texts_of a ks f.values)) ++ spaced (told_if (is_one_of a (kind_at ks x)) (known_in (Some f) x)) ∷ [] ≡ parts ++ take (x + 1) (texts_of a ks f.values) =
-    append_assoc parts (take x (texts_of a ks f.values)) (spaced (told_if (is_one_of a (kind_at ks x)) (known_in (Some f) x)) ∷ [])
-    ∙ ap (λ (r : List (List ℕ)). parts ++ r) (sym (ap (λ (n : ℕ). take n (texts_of a ks f.values)) up ∙ texts_more a x ks f.values p (h.values.size ∙ same))) in
-    subst (λ (ps : List (List ℕ)). AreParts ps (bytes ++ spaced (told_if (is_one_of a (kind_at ks x)) (known_in (Some f) x))) (sizes ++ length (spaced (told_if (is_one_of a (kind_at ks x)) (known_in (Some f) x))) ∷ [])) more
-    (parts_push (parts ++ take x (texts_of a ks f.values)) bytes sizes part are)
+pub values_on : (slots : List ℕ) (o : Option Facts) (p j : ℕ) (parts : List (List ℕ)) (bytes sizes : List ℕ) → (o ≡ None → ⊥) → p < length slots → j ≡ slot_at slots p
+    → AreParts (parts ++ take p (texts_at slots (values_in o))) bytes sizes
+    → AreParts (parts ++ take (p + 1) (texts_at slots (values_in o))) (bytes ++ spaced (four_in (known_in o j))) (sizes ++ length (spaced (four_in (known_in o j))) ∷ [])
+values_on slots None p j parts bytes sizes some h at are = absurd (some refl)
+values_on slots (Some f) p j parts bytes sizes some h at are =
+    let more : (parts ++ take p (texts_at slots f.values)) ++ spaced (four_of (known_at f.values j)) ∷ [] ≡ parts ++ take (p + 1) (texts_at slots f.values) =
+    ap (λ (i : ℕ). (parts ++ take p (texts_at slots f.values)) ++ spaced (four_of (known_at f.values i)) ∷ []) at
+    ∙ append_assoc parts (take p (texts_at slots f.values)) (spaced (four_of (known_at f.values (slot_at slots p))) ∷ [])
+    ∙ ap (λ (r : List (List ℕ)). parts ++ r) (sym (texts_more p slots f.values h)) in
+    subst (λ (ps : List (List ℕ)). AreParts ps (bytes ++ spaced (four_of (known_at f.values j))) (sizes ++ length (spaced (four_of (known_at f.values j))) ∷ [])) more
+    (parts_push (parts ++ take p (texts_at slots f.values)) bytes sizes (spaced (four_of (known_at f.values j))) are)
 
-pub values_all : (a : Bool) (l : Layout) (ks : Kinds) (o : Option Facts) (n : ℕ) (parts : List (List ℕ)) (bytes sizes : List ℕ) → AreFactsIf l o → (o ≡ None → ⊥) → length l.types ≡ length ks → n ≡ length ks
-    → AreParts (parts ++ take n (texts_of a ks (values_in o))) bytes sizes → AreParts (parts ++ texts_of a ks (values_in o)) bytes sizes
-values_all a l ks None n parts bytes sizes h some same e are = absurd (some refl)
-values_all a l ks (Some f) n parts bytes sizes h some same e are =
-    let many = texts_length a ks f.values (h.values.size ∙ same) in
-    subst (λ (ts : List (List ℕ)). AreParts (parts ++ ts) bytes sizes) (take_all n (texts_of a ks f.values) (omega (arith, many, e))) are
+pub values_all : (slots : List ℕ) (o : Option Facts) (n : ℕ) (parts : List (List ℕ)) (bytes sizes : List ℕ) → n ≡ length slots
+    → AreParts (parts ++ take n (texts_at slots (values_in o))) bytes sizes → AreParts (parts ++ texts_at slots (values_in o)) bytes sizes
+values_all slots o n parts bytes sizes e are =
+    subst (λ (ts : List (List ℕ)). AreParts (parts ++ ts) bytes sizes) (take_all n (texts_at slots (values_in o)) (omega (arith, texts_length slots (values_in o), e))) are
 
 -- the octagon's bounds behind them
 pub bounds_on : (o : Option Facts) (f : Facts) (parts : List (List ℕ)) (bytes sizes : List ℕ) → o ≡ Some f → AreParts parts bytes sizes
@@ -58,17 +53,14 @@ pub bounds_on : (o : Option Facts) (f : Facts) (parts : List (List ℕ)) (bytes 
 bounds_on o f parts bytes sizes e are =
     subst (λ (cs : List (Option ℤ)). AreParts (parts ++ spaced f.octagon.cells ∷ []) (bytes ++ spaced cs) (sizes ++ length (spaced cs) ∷ [])) (sym (ap cells_in e)) (parts_push parts bytes sizes (spaced f.octagon.cells) are)
 
-pub text_whole : (ks : Kinds) (o : Option Facts) (f : Facts) (bytes sizes : List ℕ) → o ≡ Some f
-    → AreParts ((([] ++ texts_of false ks (values_in o)) ++ texts_of true ks (values_in o)) ++ spaced f.octagon.cells ∷ []) bytes sizes → AreParts (parts_of ks f) bytes sizes
-unfolding parts_of
-text_whole ks o f bytes sizes e are =
-    let there = subst (λ (vs : List Known). AreParts ((([] ++ texts_of false ks vs) ++ texts_of true ks vs) ++ spaced f.octagon.cells ∷ []) bytes sizes) (ap values_in e) are in
-    subst (λ (ps : List (List ℕ)). AreParts ps bytes sizes) (append_assoc (texts_of false ks f.values) (texts_of true ks f.values) (spaced f.octagon.cells ∷ [])) there
+pub text_whole : (slots : List ℕ) (o : Option Facts) (f : Facts) (bytes sizes : List ℕ) → o ≡ Some f
+    → AreParts (([] ++ texts_at slots (values_in o)) ++ spaced f.octagon.cells ∷ []) bytes sizes → AreParts (parts_in slots f) bytes sizes
+unfolding parts_in
+text_whole slots o f bytes sizes e are = subst (λ (vs : List Known). AreParts (texts_at slots vs ++ spaced f.octagon.cells ∷ []) bytes sizes) (ap values_in e) are
 
--- as many variables as types
-pub many_of : (g : GraphOf) (oct : ℕ) (l : Layout) (vs : List Variable) → l ≡ layout_of g oct → map variable_view vs ≡ g.variables → length l.types ≡ length vs
-many_of g oct l vs e is =
-    ap (λ (y : Layout). length y.types) e ∙ as_many g oct ∙ ap (λ (ks : Kinds). length ks) (sym (kinds_same g vs is)) ∙ length-map vs (λ (u : Variable). (variable_view u).kind)
+-- as many slots as types
+pub many_of : (g : GraphOf) (oct : ℕ) (l : Layout) (slots : List ℕ) → l ≡ layout_of g oct → slots ≡ line_slots (kinds_of g) → length l.types ≡ length slots
+many_of g oct l slots e is = ap (λ (y : Layout). length y.types) e ∙ as_many g oct ∙ ap (λ (js : List ℕ). length js) (sym is)
 
 -- ---- a part that is written over
 
@@ -78,39 +70,32 @@ put_text bytes sizes p part = take (sum (take p sizes)) bytes ++ (part ++ drop (
 some_same : {A : Type 0} (o : Option A) (a b : A) → o ≡ Some a → o ≡ Some b → a ≡ b
 some_same o a b e d = cc
 
--- by how many there are
-pub placed : (ks : Kinds) (x n : ℕ) → n ≡ length ks → (if is_one_of true (kind_at ks x) then n + x else x) ≡ (if is_one_of true (kind_at ks x) then length ks + x else x)
-placed ks x n e = ap (λ (m : ℕ). if is_one_of true (kind_at ks x) then m + x else x) e
-
 -- how the parts lie
-pub parts_lie : (ks : Kinds) (l : Layout) (t : Told) → IsTextOf ks l t → AreFactsIf t.state.layout t.state.facts → length l.types ≡ length ks → (length t.sizes.items ≡ 2 * length ks + 1) × (length t.text.items ≡ sum t.sizes.items)
-parts_lie ks l t h facts same = by t.state.facts refl (subst (λ (y : Layout). AreFactsIf y t.state.facts) h.told.layout facts)
+pub parts_lie : (slots : List ℕ) (l : Layout) (t : Told) → IsTextOf slots l t → (length t.sizes.items ≡ length slots + 1) × (length t.text.items ≡ sum t.sizes.items)
+parts_lie slots l t h = by t.state.facts refl
   where
-    by : (o : Option Facts) → t.state.facts ≡ o → AreFactsIf l o → (length t.sizes.items ≡ 2 * length ks + 1) × (length t.text.items ≡ sum t.sizes.items)
-    by None e k = absurd (h.some e)
-    by (Some f) e k =
+    by : (o : Option Facts) → t.state.facts ≡ o → (length t.sizes.items ≡ length slots + 1) × (length t.text.items ≡ sum t.sizes.items)
+    by None e = absurd (h.some e)
+    by (Some f) e =
         let are = h.told.parts f e in
-        (parts_count (parts_of ks f) t.text.items t.sizes.items are ∙ parts_many ks f (k.values.size ∙ same), parts_whole (parts_of ks f) t.text.items t.sizes.items are)
+        (parts_count (parts_in slots f) t.text.items t.sizes.items are ∙ parts_many slots f, parts_whole (parts_in slots f) t.text.items t.sizes.items are)
 
-pub value_put : (ks : Kinds) (l : Layout) (t u : Told) (x p : ℕ) (v : Known) (part : List ℕ) → IsTextOf ks l t → AreFactsIf t.state.layout t.state.facts → length l.types ≡ length ks → x < length ks
-    → p ≡ (if is_one_of true (kind_at ks x) then length ks + x else x) → part ≡ spaced (four_of v) → u.state.layout ≡ l → u.state.facts ≡ with_known t.state.facts x v
+pub value_put : (slots : List ℕ) (l : Layout) (t u : Told) (x p : ℕ) (v : Known) (part : List ℕ) → IsOrder slots → IsTextOf slots l t → AreFactsIf t.state.layout t.state.facts → length l.types ≡ length slots → p < length slots
+    → slot_at slots p ≡ x → part ≡ spaced (four_of v) → u.state.layout ≡ l → u.state.facts ≡ with_known t.state.facts x v
     → u.values.items ≡ slice_set t.values.items x v
-    → u.text.items ≡ put_text t.text.items t.sizes.items p part → u.sizes.items ≡ slice_set t.sizes.items p (length part) → IsTextOf ks l u
-value_put ks l t u x p v part h facts same there at is layout now values text sizes = by t.state.facts refl (subst (λ (y : Layout). AreFactsIf y t.state.facts) h.told.layout facts)
+    → u.text.items ≡ put_text t.text.items t.sizes.items p part → u.sizes.items ≡ slice_set t.sizes.items p (length part) → IsTextOf slots l u
+value_put slots l t u x p v part order h facts same there at is layout now values text sizes = by t.state.facts refl (subst (λ (y : Layout). AreFactsIf y t.state.facts) h.told.layout facts)
   where
-    by : (o : Option Facts) → t.state.facts ≡ o → AreFactsIf l o → IsTextOf ks l u
+    by : (o : Option Facts) → t.state.facts ≡ o → AreFactsIf l o → IsTextOf slots l u
     by None e k = absurd (h.some e)
     by (Some f) e k =
-        let size : length f.values ≡ length ks = k.values.size ∙ same in
+        let size : length f.values ≡ length slots = k.values.size ∙ same in
         let after : u.state.facts ≡ Some (with_value f x v) = now ∙ ap (λ (o : Option Facts). with_known o x v) e in
         let are = h.told.parts f e in
-        let place : p < length (parts_of ks f) = elim (is_one_of true (kind_at ks x)) as (λ b. p ≡ (if b then length ks + x else x) → p < length (parts_of ks f)) [
-          | true ↦ λ d. omega (arith, d, there, parts_many ks f size)
-          | false ↦ λ d. omega (arith, d, there, parts_many ks f size)
-        ] at in
-        let put : AreParts (slice_set (parts_of ks f) p part) u.text.items u.sizes.items =
-        parts_as (slice_set (parts_of ks f) p part) u.text.items (put_text t.text.items t.sizes.items p part) u.sizes.items (slice_set t.sizes.items p (length part)) text sizes (parts_put (parts_of ks f) t.text.items t.sizes.items p part are place) in
-        let known : slice_set (parts_of ks f) p part ≡ parts_of ks (with_value f x v) = ap (λ (r : List ℕ). slice_set (parts_of ks f) p r) is ∙ sym (parts_known ks f x v p there size at) in
+        let place : p < length (parts_in slots f) = omega (arith, there, parts_many slots f) in
+        let put : AreParts (slice_set (parts_in slots f) p part) u.text.items u.sizes.items =
+        parts_as (slice_set (parts_in slots f) p part) u.text.items (put_text t.text.items t.sizes.items p part) u.sizes.items (slice_set t.sizes.items p (length part)) text sizes (parts_put (parts_in slots f) t.text.items t.sizes.items p part are place) in
+        let known : slice_set (parts_in slots f) p part ≡ parts_in slots (with_value f x v) = ap (λ (r : List ℕ). slice_set (parts_in slots f) p r) is ∙ sym (parts_known slots f x v p order size there at) in
         record {
           told = record {
             layout = layout;
@@ -119,32 +104,31 @@ value_put ks l t u x p v part h facts same there at is layout now values text si
                 values ∙ ap (λ (vs : List Known). slice_set vs x v) (h.told.values f e) ∙ ap (λ (y : Facts). y.values) one;
             parts = λ g d.
                 let one : with_value f x v ≡ g = some_same u.state.facts (with_value f x v) g after d in
-                subst (λ (y : Facts). AreParts (parts_of ks y) u.text.items u.sizes.items) one (subst (λ (ps : List (List ℕ)). AreParts ps u.text.items u.sizes.items) known put);
+                subst (λ (y : Facts). AreParts (parts_in slots y) u.text.items u.sizes.items) one (subst (λ (ps : List (List ℕ)). AreParts ps u.text.items u.sizes.items) known put);
           };
           some = λ d. let none : ◌≡◌ {A = Option Facts} (Some (with_value f x v)) None = sym after ∙ d in absurd (cc);
         }
 
-pub bounds_put : (ks : Kinds) (l : Layout) (t u : Told) (p : ℕ) (part : List ℕ) → IsTextOf ks l t → AreFactsIf t.state.layout t.state.facts → length l.types ≡ length ks
-    → p ≡ 2 * length ks → part ≡ spaced (cells_in u.state.facts) → u.state.layout ≡ l → (u.state.facts ≡ None → ⊥) → values_in u.state.facts ≡ values_in t.state.facts → u.values.items ≡ t.values.items
-    → u.text.items ≡ put_text t.text.items t.sizes.items p part → u.sizes.items ≡ slice_set t.sizes.items p (length part) → IsTextOf ks l u
-bounds_put ks l t u p part h facts same at is layout some values list text sizes = by t.state.facts refl (subst (λ (y : Layout). AreFactsIf y t.state.facts) h.told.layout facts) u.state.facts refl
+pub bounds_put : (slots : List ℕ) (l : Layout) (t u : Told) (p : ℕ) (part : List ℕ) → IsTextOf slots l t
+    → p ≡ length slots → part ≡ spaced (cells_in u.state.facts) → u.state.layout ≡ l → (u.state.facts ≡ None → ⊥) → values_in u.state.facts ≡ values_in t.state.facts → u.values.items ≡ t.values.items
+    → u.text.items ≡ put_text t.text.items t.sizes.items p part → u.sizes.items ≡ slice_set t.sizes.items p (length part) → IsTextOf slots l u
+bounds_put slots l t u p part h at is layout some values list text sizes = by t.state.facts refl u.state.facts refl
   where
-    by : (o : Option Facts) → t.state.facts ≡ o → AreFactsIf l o → (n : Option Facts) → u.state.facts ≡ n → IsTextOf ks l u
-    by None e k n d = absurd (h.some e)
-    by (Some f) e k None d = absurd (some d)
-    by (Some f) e k (Some g) d =
-        let size : length f.values ≡ length ks = k.values.size ∙ same in
+    by : (o : Option Facts) → t.state.facts ≡ o → (n : Option Facts) → u.state.facts ≡ n → IsTextOf slots l u
+    by None e n d = absurd (h.some e)
+    by (Some f) e None d = absurd (some d)
+    by (Some f) e (Some g) d =
         let are = h.told.parts f e in
         let equal : g.values ≡ f.values = sym (ap values_in d) ∙ values ∙ ap values_in e in
-        let put : AreParts (slice_set (parts_of ks f) p part) u.text.items u.sizes.items =
-        parts_as (slice_set (parts_of ks f) p part) u.text.items (put_text t.text.items t.sizes.items p part) u.sizes.items (slice_set t.sizes.items p (length part)) text sizes
-        (parts_put (parts_of ks f) t.text.items t.sizes.items p part are (omega (arith, at, parts_many ks f size))) in
-        let known : slice_set (parts_of ks f) p part ≡ parts_of ks g = ap (λ (r : List ℕ). slice_set (parts_of ks f) p r) (is ∙ ap (λ (o : Option Facts). spaced (cells_in o)) d) ∙ sym (parts_bounded ks f g p equal size at) in
+        let put : AreParts (slice_set (parts_in slots f) p part) u.text.items u.sizes.items =
+        parts_as (slice_set (parts_in slots f) p part) u.text.items (put_text t.text.items t.sizes.items p part) u.sizes.items (slice_set t.sizes.items p (length part)) text sizes
+        (parts_put (parts_in slots f) t.text.items t.sizes.items p part are (omega (arith, at, parts_many slots f))) in
+        let known : slice_set (parts_in slots f) p part ≡ parts_in slots g = ap (λ (r : List ℕ). slice_set (parts_in slots f) p r) (is ∙ ap (λ (o : Option Facts). spaced (cells_in o)) d) ∙ sym (parts_bounded slots f g p equal at) in
         record {
           told = record {
             layout = layout;
             values = λ y c. list ∙ h.told.values f e ∙ sym equal ∙ ap (λ (z : Facts). z.values) (some_same u.state.facts g y d c);
-            parts = λ y c. subst (λ (z : Facts). AreParts (parts_of ks z) u.text.items u.sizes.items) (some_same u.state.facts g y d c) (subst (λ (ps : List (List ℕ)). AreParts ps u.text.items u.sizes.items) known put);
+            parts = λ y c. subst (λ (z : Facts). AreParts (parts_in slots z) u.text.items u.sizes.items) (some_same u.state.facts g y d c) (subst (λ (ps : List (List ℕ)). AreParts ps u.text.items u.sizes.items) known put);
           };
           some = some;
         }
@@ -168,22 +152,22 @@ stands text bytes (z ∷ zs) n size some room last same e =
           ∙ sym (append_assoc (but_last (z ∷ zs)) (10 ∷ []) (drop n bytes)) ∙ ap (λ (r : List ℕ). r ++ drop n bytes) (sym (ended_last z zs));
     }
 
-pub told_text : (ks : Kinds) (l : Layout) (t : Told) (f : Facts) → IsTold ks l t → t.state.facts ≡ Some f → t.text.items ≡ spaced (symbols_of ks f)
-told_text ks l t f h e = (h.parts f e).joined ∙ parts_joined ks f
+pub told_text : (slots : List ℕ) (l : Layout) (t : Told) (f : Facts) → IsToldIn slots l t → t.state.facts ≡ Some f → t.text.items ≡ spaced (symbols_in slots f)
+told_text slots l t f h e = (h.parts f e).joined ∙ parts_joined slots f
 
-pub line_stands : (ks : Kinds) (l : Layout) (t : Told) (bytes : List ℕ) (o : Option ℕ) → IsTextOf ks l t
-    → IfSome o (λ (n : ℕ). (zs : List (Option ℤ)) → t.text.items ≡ spaced zs → AreFirst (symbols_text zs) bytes n) → IfSome o (λ (n : ℕ). AreFirst (line_text (line_of ks t.state.facts)) bytes n)
-line_stands ks l t bytes None h p = tt
-line_stands ks l t bytes (Some n) h p = by t.state.facts refl
+pub line_stands : (slots : List ℕ) (l : Layout) (t : Told) (bytes : List ℕ) (o : Option ℕ) → IsTextOf slots l t
+    → IfSome o (λ (n : ℕ). (zs : List (Option ℤ)) → t.text.items ≡ spaced zs → AreFirst (symbols_text zs) bytes n) → IfSome o (λ (n : ℕ). AreFirst (line_text (line_in slots t.state.facts)) bytes n)
+line_stands slots l t bytes None h p = tt
+line_stands slots l t bytes (Some n) h p = by t.state.facts refl
   where
-    by : (fs : Option Facts) → t.state.facts ≡ fs → AreFirst (line_text (line_of ks t.state.facts)) bytes n
+    by : (fs : Option Facts) → t.state.facts ≡ fs → AreFirst (line_text (line_in slots t.state.facts)) bytes n
     by None e = absurd (h.some e)
-    by (Some f) e = subst (λ (fs : Option Facts). AreFirst (line_text (line_of ks fs)) bytes n) (sym e) (p (symbols_of ks f) (told_text ks l t f h.told e))
+    by (Some f) e = subst (λ (fs : Option Facts). AreFirst (line_text (line_in slots fs)) bytes n) (sym e) (p (symbols_in slots f) (told_text slots l t f h.told e))
 
-pub line_written : (ks : Kinds) (l : Layout) (t : Told) (o : Option Facts) (before new : List ℕ) → IsTextOf ks l t → t.state.facts ≡ o
-    → ((zs : List (Option ℤ)) → t.text.items ≡ spaced zs → new ≡ before ++ symbols_text zs) → new ≡ before ++ line_text (line_of ks o)
-line_written ks l t None before new h e p = absurd (h.some e)
-line_written ks l t (Some f) before new h e p = p (symbols_of ks f) (told_text ks l t f h.told e)
+pub line_written : (slots : List ℕ) (l : Layout) (t : Told) (o : Option Facts) (before new : List ℕ) → IsTextOf slots l t → t.state.facts ≡ o
+    → ((zs : List (Option ℤ)) → t.text.items ≡ spaced zs → new ≡ before ++ symbols_text zs) → new ≡ before ++ line_text (line_in slots o)
+line_written slots l t None before new h e p = absurd (h.some e)
+line_written slots l t (Some f) before new h e p = p (symbols_in slots f) (told_text slots l t f h.told e)
 
 -- ---- value by value
 
@@ -209,9 +193,9 @@ known_all l None x vs h some p e = absurd (some refl)
 known_all l (Some f) x vs h some p e = e ∙ take_all x f.values (omega (arith, p, h.values.size))
 
 -- the values of what is told are as many as the variables, and what is known of them
-pub values_lie : (ks : Kinds) (l : Layout) (t : Told) (x : ℕ) → IsTextOf ks l t → AreFactsIf t.state.layout t.state.facts → x < length l.types
+pub values_lie : (slots : List ℕ) (l : Layout) (t : Told) (x : ℕ) → IsTextOf slots l t → AreFactsIf t.state.layout t.state.facts → x < length l.types
     → (x < length t.values.items) × (known_in t.state.facts x ≡ Some (known_at t.values.items x))
-values_lie ks l t x h facts p = by t.state.facts refl (subst (λ (y : Layout). AreFactsIf y t.state.facts) h.told.layout facts)
+values_lie slots l t x h facts p = by t.state.facts refl (subst (λ (y : Layout). AreFactsIf y t.state.facts) h.told.layout facts)
   where
     by : (o : Option Facts) → t.state.facts ≡ o → AreFactsIf l o → (x < length t.values.items) × (known_in t.state.facts x ≡ Some (known_at t.values.items x))
     by None e k = absurd (h.some e)

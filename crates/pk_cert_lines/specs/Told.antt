@@ -1,23 +1,21 @@
 -- The symbols of a state as a text, part by part.
-use Rattle.std.specs.Prelude.{◌≡◌, ℕ, Bool, true, false, if◌then◌else◌, List, [], ◌∷◌, ◌++◌, map, length, Some, None}
+use Rattle.std.specs.Prelude.{◌≡◌, ℕ, List, [], ◌∷◌, ◌++◌, map, length, Some, None}
 use Rattle.std.specs.List.{concat}
 use Rattle.pk_graph.specs.Kinds.{Kinds}
 use Rattle.pk_value.specs.Known.{Known}
 use Rattle.pk_state.specs.Layouts.{Layout}
-use Rattle.pk_state.specs.Facts.{Facts}
-use Rattle.pk_cert_states.specs.Lines.{four_of, is_one_of}
+use Rattle.pk_state.specs.Facts.{Facts, known_at}
+use Rattle.pk_cert_states.specs.Lines.{line_slots, four_of}
 use Rattle.pk_cert_lines.specs.declared.told.Told.{Told}
 use Rattle.pk_cert_lines.specs.Symbols.{spaced}
 
--- the numbers of each variable as a text, which is empty where it isn't one of the arrays, or of the scalars
-abbrev pub texts_of : Bool → Kinds → List Known → List (List ℕ)
-texts_of arrays [] vs = []
-texts_of arrays (k ∷ ks) [] = []
-texts_of arrays (k ∷ ks) (v ∷ vs) = spaced (if is_one_of arrays k then four_of v else []) ∷ texts_of arrays ks vs
+-- the numbers of the values at these slots, each a text
+abbrev pub texts_at : List ℕ → List Known → List (List ℕ)
+texts_at slots vs = map (λ j. spaced (four_of (known_at vs j))) slots
 
--- those of the scalars, those of the arrays, and the octagon's bounds
-unfoldable pub parts_of : Kinds → Facts → List (List ℕ)
-parts_of ks f = texts_of false ks f.values ++ (texts_of true ks f.values ++ spaced f.octagon.cells ∷ [])
+-- these, and the octagon's bounds
+unfoldable pub parts_in : List ℕ → Facts → List (List ℕ)
+parts_in slots f = texts_at slots f.values ++ spaced f.octagon.cells ∷ []
 
 abbrev pub sizes_of : List (List ℕ) → List ℕ
 sizes_of = map (λ (part : List ℕ). length part)
@@ -27,13 +25,17 @@ pub record AreParts (parts : List (List ℕ)) (bytes sizes : List ℕ) : Type 0 
   pub joined : bytes ≡ concat parts
   pub counted : sizes ≡ sizes_of parts
 
--- The state is over the layout; where some run comes the values are its, and the text is that of its symbols.
-pub record IsTold (ks : Kinds) (l : Layout) (t : Told) : Type 0 where
+-- The state is over the layout; where some run comes the values are its, and the text is that of its symbols in this order.
+pub record IsToldIn (slots : List ℕ) (l : Layout) (t : Told) : Type 0 where
   pub layout : t.state.layout ≡ l
   pub values : (f : Facts) → t.state.facts ≡ Some f → t.values.items ≡ f.values
-  pub parts : (f : Facts) → t.state.facts ≡ Some f → AreParts (parts_of ks f) t.text.items t.sizes.items
+  pub parts : (f : Facts) → t.state.facts ≡ Some f → AreParts (parts_in slots f) t.text.items t.sizes.items
 
 -- it is told, and some run comes there
-pub record IsTextOf (ks : Kinds) (l : Layout) (t : Told) : Type 0 where
-  pub told : IsTold ks l t
+pub record IsTextOf (slots : List ℕ) (l : Layout) (t : Told) : Type 0 where
+  pub told : IsToldIn slots l t
   pub some : t.state.facts ≡ None → ⊥
+
+-- it is told in the order of a line
+abbrev pub IsTold : Kinds → Layout → Told → Type 0
+IsTold ks = IsToldIn (line_slots ks)

@@ -4,13 +4,12 @@ ghost use Rattle.std.specs.Prelude.{◌≡◌, ◌++◌, ◌+◌, ◌*◌, ◌%�
 ghost use Rattle.pk_state.specs.Layouts.{type_at};
 ghost use Rattle.pk_state.specs.Changes.{IsValue, known_in, bound_in};
 ghost use Rattle.pk_cert.specs.Rows.{symbols_text, line_text};
-ghost use Rattle.pk_cert_states.specs.Lines.{line_of};
-ghost use Rattle.pk_cert_states.specs.Parts.{kinds_in};
+ghost use Rattle.pk_cert_states.specs.Lines.{line_in};
 ghost use Rattle.pk_cert_lines.specs.Symbols.{spaced, values_in};
-ghost use Rattle.pk_cert_lines.specs.Told.{IsTold, IsTextOf};
+ghost use Rattle.pk_cert_lines.specs.Told.{IsToldIn, IsTextOf};
 
 use crate::told::{Told, put_bounds, put_value, told_in, value_in};
-use pk_graph::Variable;
+use pk_cert_states::Order;
 use pk_octmat::octagons_are_entries;
 use pk_state::{Frame, State};
 use pk_value::Value;
@@ -44,7 +43,7 @@ fn end_with(bytes: &mut Vec<u8>, text: &[u8]) -> Result<(), AllocError>
     Ok(())
 }
 
-// What a state knows of a variable, if it is something else.
+// What a state knows of a slot, if it is something else.
 fn other_value(state: &State, old: &Value, x: usize) -> Option<Value>
     requires place { x < length state.now.layout.types }
     requires some { state.now.facts ≡ None → ⊥ }
@@ -57,63 +56,63 @@ fn other_value(state: &State, old: &Value, x: usize) -> Option<Value>
     }
 }
 
-// Writes the value of a variable in place, if it differs, and answers how many more may; none where none may.
+// Writes the value of a slot in place, if it differs, and answers how many more may; none where none may.
 fn tell_value(
     alloc: Global,
     told: &mut Told,
     frame: &Frame,
-    variables: &[Variable],
+    order: &Order,
     state: &State,
     x: usize,
     left: usize,
 ) -> Result<Option<usize>, AllocError>
-    requires told { IsTextOf (kinds_in variables.now) frame.now told.old }
-    requires many { length frame.now.types ≡ length variables.now }
+    requires told { IsTextOf order.now frame.now told.old }
+    requires many { length frame.now.types ≡ length order.now }
     requires state { state.now.layout ≡ frame.now }
     requires some { state.now.facts ≡ None → ⊥ }
-    requires place { x < length variables.now }
-    ensures told { OnOk result (IsTextOf (kinds_in variables.now) frame.now told.new) }
+    requires place { x < length order.now }
+    ensures told { OnOk result (IsTextOf order.now frame.now told.new) }
     ensures others { OnOk result ((y : ℕ) → (y ≡ x → ⊥) →
         known_in told.new.state.facts y ≡ known_in told.old.state.facts y) }
     ensures value { IfOk result (λ o. IfSome o (λ _.
         known_in told.new.state.facts x ≡ known_in state.now.facts x)) }
 {
     told.state.is_stated();
-    match other_value(state, &value_in(told, frame, variables, x), x) {
+    match other_value(state, &value_in(told, frame, order, x), x) {
         None => Ok(Some(left)),
         Some(value) => {
             if left == 0 {
                 return Ok(None);
             }
-            put_value(alloc, told, frame, variables, x, value)?;
+            put_value(alloc, told, frame, order, x, value)?;
             Ok(Some(left - 1))
         }
     }
 }
 
-// How many variables are looked at together.
+// How many slots are looked at together.
 const ROW: usize = 16;
 
-// Writes the values of sixteen variables in place, where they differ, and answers how many more may; none where none may.
+// Writes the values of sixteen slots in place, where they differ, and answers how many more may; none where none may.
 fn tell_row(
     alloc: Global,
     told: &mut Told,
     frame: &Frame,
-    variables: &[Variable],
+    order: &Order,
     state: &State,
     x: usize,
     left: usize,
 ) -> Result<Option<usize>, AllocError>
-    requires told { IsTextOf (kinds_in variables.now) frame.now told.old }
-    requires many { length frame.now.types ≡ length variables.now }
+    requires told { IsTextOf order.now frame.now told.old }
+    requires many { length frame.now.types ≡ length order.now }
     requires state { state.now.layout ≡ frame.now }
     requires some { state.now.facts ≡ None → ⊥ }
-    requires place { x < length variables.now }
+    requires place { x < length order.now }
     requires first { x % 16 ≡ 0 }
-    ensures told { OnOk result (IsTextOf (kinds_in variables.now) frame.now told.new) }
+    ensures told { OnOk result (IsTextOf order.now frame.now told.new) }
     ensures before { OnOk result ((y : ℕ) → y < x →
         known_in told.new.state.facts y ≡ known_in told.old.state.facts y) }
-    ensures values { IfOk result (λ o. IfSome o (λ _. (y : ℕ) → x ≤ y → y < x + 16 → y < length variables.now →
+    ensures values { IfOk result (λ o. IfSome o (λ _. (y : ℕ) → x ≤ y → y < x + 16 → y < length order.now →
         known_in told.new.state.facts y ≡ known_in state.now.facts y)) }
 {
     told.state.is_stated();
@@ -121,8 +120,8 @@ fn tell_row(
         return Ok(Some(left));
     }
     let mut fewer = left;
-    for y in x..variables.len().min(x.saturating_add(ROW)) {
-        match tell_value(alloc, told, frame, variables, state, y, fewer)? {
+    for y in x..order.len().min(x.saturating_add(ROW)) {
+        match tell_value(alloc, told, frame, order, state, y, fewer)? {
             None => return Ok(None),
             Some(next) => fewer = next,
         }
@@ -135,19 +134,19 @@ fn tell_values(
     alloc: Global,
     told: &mut Told,
     frame: &Frame,
-    variables: &[Variable],
+    order: &Order,
     state: &State,
 ) -> Result<bool, AllocError>
-    requires told { IsTextOf (kinds_in variables.now) frame.now told.old }
-    requires many { length frame.now.types ≡ length variables.now }
+    requires told { IsTextOf order.now frame.now told.old }
+    requires many { length frame.now.types ≡ length order.now }
     requires state { state.now.layout ≡ frame.now }
     requires some { state.now.facts ≡ None → ⊥ }
-    ensures told { OnOk result (IsTextOf (kinds_in variables.now) frame.now told.new) }
+    ensures told { OnOk result (IsTextOf order.now frame.now told.new) }
     ensures values { IfOk result (λ b. b ≡ true → values_in state.now.facts ≡ values_in told.new.state.facts) }
 {
     let mut left = MOST;
-    for k in 0..(variables.len() + ROW - 1) / ROW {
-        match tell_row(alloc, told, frame, variables, state, k * ROW, left)? {
+    for k in 0..order.len().div_ceil(ROW) {
+        match tell_row(alloc, told, frame, order, state, k * ROW, left)? {
             None => return Ok(false),
             Some(fewer) => left = fewer,
         }
@@ -201,15 +200,15 @@ fn tell_bounds<'f>(
     alloc: Global,
     told: &mut Told<'f>,
     frame: &Frame,
-    variables: &[Variable],
+    order: &Order,
     state: &State<'f>,
 ) -> Result<(), AllocError>
-    requires told { IsTextOf (kinds_in variables.now) frame.now told.old }
-    requires many { length frame.now.types ≡ length variables.now }
+    requires told { IsTextOf order.now frame.now told.old }
+    requires many { length frame.now.types ≡ length order.now }
     requires state { state.now.layout ≡ frame.now }
     requires some { state.now.facts ≡ None → ⊥ }
     requires values { values_in state.now.facts ≡ values_in told.old.state.facts }
-    ensures told { OnOk result (IsTextOf (kinds_in variables.now) frame.now told.new) }
+    ensures told { OnOk result (IsTextOf order.now frame.now told.new) }
     ensures state { OnOk result (told.new.state.facts ≡ state.now.facts) }
 {
     state.is_stated();
@@ -218,7 +217,7 @@ fn tell_bounds<'f>(
     if are_same(&told.state, state, octagon_size(frame)) {
         return Ok(());
     }
-    put_bounds(alloc, told, frame, variables, state.copy(alloc)?)?;
+    put_bounds(alloc, told, frame, order, state.copy(alloc)?)?;
     Ok(())
 }
 
@@ -227,24 +226,24 @@ fn tell<'f>(
     alloc: Global,
     told: &mut Told<'f>,
     frame: &Frame,
-    variables: &[Variable],
+    order: &Order,
     state: &State<'f>,
 ) -> Result<(), AllocError>
-    requires told { IsTold (kinds_in variables.now) frame.now told.old }
-    requires many { length frame.now.types ≡ length variables.now }
+    requires told { IsToldIn order.now frame.now told.old }
+    requires many { length frame.now.types ≡ length order.now }
     requires state { state.now.layout ≡ frame.now }
     requires some { state.now.facts ≡ None → ⊥ }
-    ensures told { OnOk result (IsTextOf (kinds_in variables.now) frame.now told.new) }
+    ensures told { OnOk result (IsTextOf order.now frame.now told.new) }
     ensures state { OnOk result (told.new.state.facts ≡ state.now.facts) }
 {
     if told.state.is_bottom() {
-        *told = told_in(alloc, frame, variables, state.copy(alloc)?)?;
+        *told = told_in(alloc, frame, order, state.copy(alloc)?)?;
         return Ok(());
     }
-    if tell_values(alloc, told, frame, variables, state)? {
-        return tell_bounds(alloc, told, frame, variables, state);
+    if tell_values(alloc, told, frame, order, state)? {
+        return tell_bounds(alloc, told, frame, order, state);
     }
-    *told = told_in(alloc, frame, variables, state.copy(alloc)?)?;
+    *told = told_in(alloc, frame, order, state.copy(alloc)?)?;
     Ok(())
 }
 
@@ -254,20 +253,20 @@ pub(crate) fn write_in<'f>(
     bytes: &mut Vec<u8>,
     told: &mut Told<'f>,
     frame: &Frame,
-    variables: &[Variable],
+    order: &Order,
     state: &State<'f>,
 ) -> Result<(), AllocError>
-    requires told { IsTold (kinds_in variables.now) frame.now told.old }
-    requires many { length frame.now.types ≡ length variables.now }
+    requires told { IsToldIn order.now frame.now told.old }
+    requires many { length frame.now.types ≡ length order.now }
     requires state { state.now.layout ≡ frame.now }
-    ensures told { OnOk result (IsTold (kinds_in variables.now) frame.now told.new) }
+    ensures told { OnOk result (IsToldIn order.now frame.now told.new) }
     ensures bytes { OnOk result (bytes.new.items ≡ bytes.old.items
-        ++ line_text (line_of (kinds_in variables.now) state.now.facts)) }
+        ++ line_text (line_in order.now state.now.facts)) }
 {
     if state.is_bottom() {
         return bytes.extend_from_slice(b"bot\n");
     }
-    tell(alloc, told, frame, variables, state)?;
+    tell(alloc, told, frame, order, state)?;
     end_with(bytes, &told.text)?;
     Ok(())
 }

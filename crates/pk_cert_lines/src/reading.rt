@@ -3,41 +3,39 @@
 ghost use Rattle.std.specs.Prelude.{◌≡◌, ◌-◌, ◌<◌, ◌≤◌, ℕ, true, take, slice_index, ℤ, List, Option, OnOk, IfOk, IfSome, None, length};
 ghost use Rattle.pk_cert.specs.Rows.{symbols_text, line_text};
 ghost use Rattle.pk_cert.specs.Pieces.{AreFirst};
-ghost use Rattle.pk_cert_states.specs.Lines.{line_of};
-ghost use Rattle.pk_cert_states.specs.Parts.{kinds_in};
+ghost use Rattle.pk_cert_states.specs.Lines.{line_in};
 ghost use Rattle.pk_cert_lines.specs.Symbols.{spaced};
-ghost use Rattle.pk_cert_lines.specs.Told.{IsTold, IsTextOf};
+ghost use Rattle.pk_cert_lines.specs.Told.{IsToldIn, IsTextOf};
 
 use crate::guesses::symbols;
 use crate::parts::{apart, end};
 use crate::told::{Told, put_bounds, put_value};
-use pk_cert_states::{first_value, octagon};
-use pk_graph::Variable;
+use pk_cert_states::{Order, first_value, octagon};
 use pk_state::Frame;
 use std::alloc::{AllocError, Global};
 
 // How many parts are read at most.
 const MOST: usize = 8;
 
-// Reads the numbers of a variable, if they may be such.
+// Reads the numbers of a slot, if they may be such.
 fn read_value(
     alloc: Global,
     told: &mut Told,
     frame: &Frame,
-    variables: &[Variable],
+    order: &Order,
     x: usize,
     bytes: &[u8],
 ) -> Result<bool, AllocError>
-    requires told { IsTextOf (kinds_in variables.now) frame.now told.old }
-    requires many { length frame.now.types ≡ length variables.now }
-    requires place { x < length variables.now }
-    ensures { OnOk result (IsTextOf (kinds_in variables.now) frame.now told.new) }
+    requires told { IsTextOf order.now frame.now told.old }
+    requires many { length frame.now.types ≡ length order.now }
+    requires place { x < length order.now }
+    ensures { OnOk result (IsTextOf order.now frame.now told.new) }
 {
     let four = symbols(alloc, bytes, 4)?;
     match first_value(&four, frame.int_type(x)) {
         None => Ok(false),
         Some((value, _)) => {
-            put_value(alloc, told, frame, variables, x, value)?;
+            put_value(alloc, told, frame, order, x, value)?;
             Ok(true)
         }
     }
@@ -48,12 +46,12 @@ fn read_bounds(
     alloc: Global,
     told: &mut Told,
     frame: &Frame,
-    variables: &[Variable],
+    order: &Order,
     bytes: &[u8],
 ) -> Result<bool, AllocError>
-    requires told { IsTextOf (kinds_in variables.now) frame.now told.old }
-    requires many { length frame.now.types ≡ length variables.now }
-    ensures { OnOk result (IsTextOf (kinds_in variables.now) frame.now told.new) }
+    requires told { IsTextOf order.now frame.now told.old }
+    requires many { length frame.now.types ≡ length order.now }
+    ensures { OnOk result (IsTextOf order.now frame.now told.new) }
 {
     frame.is_layout();
     let n = frame.octagon_len();
@@ -63,7 +61,7 @@ fn read_bounds(
         None => Ok(false),
         Some(octagon) => {
             let state = told.state.copy(alloc)?.with_bounds(alloc, octagon)?;
-            put_bounds(alloc, told, frame, variables, state)?;
+            put_bounds(alloc, told, frame, order, state)?;
             Ok(true)
         }
     }
@@ -74,21 +72,18 @@ fn read_part(
     alloc: Global,
     told: &mut Told,
     frame: &Frame,
-    variables: &[Variable],
+    order: &Order,
     p: usize,
     bytes: &[u8],
 ) -> Result<bool, AllocError>
-    requires told { IsTextOf (kinds_in variables.now) frame.now told.old }
-    requires many { length frame.now.types ≡ length variables.now }
-    ensures { OnOk result (IsTextOf (kinds_in variables.now) frame.now told.new) }
+    requires told { IsTextOf order.now frame.now told.old }
+    requires many { length frame.now.types ≡ length order.now }
+    ensures { OnOk result (IsTextOf order.now frame.now told.new) }
 {
-    let n = variables.len();
-    if p < n {
-        read_value(alloc, told, frame, variables, p, bytes)
-    } else if p - n < n {
-        read_value(alloc, told, frame, variables, p - n, bytes)
+    if p < order.len() {
+        read_value(alloc, told, frame, order, order.slot(p), bytes)
     } else {
-        read_bounds(alloc, told, frame, variables, bytes)
+        read_bounds(alloc, told, frame, order, bytes)
     }
 }
 
@@ -97,20 +92,20 @@ fn read_next(
     alloc: Global,
     told: &mut Told,
     frame: &Frame,
-    variables: &[Variable],
+    order: &Order,
     bytes: &[u8],
     from: usize,
     start: usize,
 ) -> Result<Option<(usize, usize)>, AllocError>
-    requires told { IsTextOf (kinds_in variables.now) frame.now told.old }
-    requires many { length frame.now.types ≡ length variables.now }
-    ensures { OnOk result (IsTextOf (kinds_in variables.now) frame.now told.new) }
+    requires told { IsTextOf order.now frame.now told.old }
+    requires many { length frame.now.types ≡ length order.now }
+    ensures { OnOk result (IsTextOf order.now frame.now told.new) }
 {
     let (p, at) = apart(&told.text, &told.sizes, bytes, from, start);
     if bytes.len() < at || told.sizes.len() <= p {
         return Ok(None);
     }
-    if !read_part(alloc, told, frame, variables, p, &bytes[at..])? {
+    if !read_part(alloc, told, frame, order, p, &bytes[at..])? {
         return Ok(None);
     }
     if p < told.sizes.len() {
@@ -125,17 +120,17 @@ fn read_parts(
     alloc: Global,
     told: &mut Told,
     frame: &Frame,
-    variables: &[Variable],
+    order: &Order,
     bytes: &[u8],
 ) -> Result<(), AllocError>
-    requires told { IsTextOf (kinds_in variables.now) frame.now told.old }
-    requires many { length frame.now.types ≡ length variables.now }
-    ensures { OnOk result (IsTextOf (kinds_in variables.now) frame.now told.new) }
+    requires told { IsTextOf order.now frame.now told.old }
+    requires many { length frame.now.types ≡ length order.now }
+    ensures { OnOk result (IsTextOf order.now frame.now told.new) }
 {
     let mut p = 0;
     let mut at = 0;
     for _ in 0..MOST {
-        match read_next(alloc, told, frame, variables, bytes, p, at)? {
+        match read_next(alloc, told, frame, order, bytes, p, at)? {
             None => return Ok(()),
             Some((next, to)) => {
                 p = next;
@@ -178,18 +173,18 @@ pub(crate) fn read_in(
     alloc: Global,
     told: &mut Told,
     frame: &Frame,
-    variables: &[Variable],
+    order: &Order,
     bytes: &[u8],
 ) -> Result<Option<usize>, AllocError>
-    requires told { IsTold (kinds_in variables.now) frame.now told.old }
-    requires many { length frame.now.types ≡ length variables.now }
-    ensures told { OnOk result (IsTold (kinds_in variables.now) frame.now told.new) }
+    requires told { IsToldIn order.now frame.now told.old }
+    requires many { length frame.now.types ≡ length order.now }
+    ensures told { OnOk result (IsToldIn order.now frame.now told.new) }
     ensures line { IfOk result (λ o. IfSome o (λ n.
-        AreFirst (line_text (line_of (kinds_in variables.now) told.new.state.facts)) bytes.now n)) }
+        AreFirst (line_text (line_in order.now told.new.state.facts)) bytes.now n)) }
 {
     if told.state.is_bottom() {
         return Ok(None);
     }
-    read_parts(alloc, told, frame, variables, bytes)?;
+    read_parts(alloc, told, frame, order, bytes)?;
     Ok(line_len(&told.text, bytes))
 }

@@ -1,27 +1,24 @@
 // A state and its symbols as a text.
 
 ghost use Rattle.std.specs.Prelude.{◌≡◌, ◌++◌, ◌∷◌, [], ◌+◌, ◌*◌, ◌<◌, ℕ, List, IfOk, OnOk, Some, None, length, slice_set, if◌then◌else◌, true};
-ghost use Rattle.pk_graph.specs.Kinds.{kind_at};
 ghost use Rattle.pk_value.specs.Known.{Known};
 ghost use Rattle.pk_state.specs.Layouts.{type_at};
 ghost use Rattle.pk_state.specs.Facts.{Facts};
 ghost use Rattle.pk_state.specs.Changes.{IsValue, known_in, with_known};
-ghost use Rattle.pk_cert_states.specs.Lines.{is_one_of, four_of};
-ghost use Rattle.pk_cert_states.specs.Parts.{kinds_in};
-ghost use Rattle.pk_cert_lines.specs.Symbols.{spaced, told_if, values_in, cells_in};
-ghost use Rattle.pk_cert_lines.specs.Told.{texts_of, parts_of, AreParts, IsTold, IsTextOf};
+ghost use Rattle.pk_cert_states.specs.Lines.{four_of};
+ghost use Rattle.pk_cert_lines.specs.Symbols.{spaced, four_in, values_in, cells_in};
+ghost use Rattle.pk_cert_lines.specs.Told.{texts_at, parts_in, AreParts, IsToldIn, IsTextOf};
 
 use crate::parts::put;
 use crate::symbols::write_value;
 use crate::values::{write_bounds, write_one};
-use pk_cert_states::is_one_of;
-use pk_graph::Variable;
+use pk_cert_states::Order;
 use pk_state::{Frame, State};
 use pk_value::Value;
 use std::alloc::{AllocError, Global};
 
 /// A state, its values, its symbols as a text with a space behind each, and how many bytes of it are those of each
-/// variable as a scalar, of each as an array, and of the octagon's bounds.
+/// value in the order of a line, and of the octagon's bounds.
 #[derive(Drop)]
 pub struct Told<'f> {
     pub state: State<'f>,
@@ -30,47 +27,41 @@ pub struct Told<'f> {
     pub sizes: Vec<usize>,
 }
 
-// Adds the numbers of a variable, if it is one of the arrays, or of the scalars.
+// Adds the numbers of a slot's value.
 fn add_value(
     text: &mut Vec<u8>,
     sizes: &mut Vec<usize>,
-    variables: &[Variable],
     state: &State,
-    arrays: bool,
-    x: usize,
+    j: usize,
 ) -> Result<(), AllocError>
-    requires place { x < length variables.now }
-    requires many { length state.now.layout.types ≡ length variables.now }
+    requires { j < length state.now.layout.types }
     ensures text { OnOk result (text.new.items ≡ text.old.items
-        ++ spaced (told_if (is_one_of arrays (kind_at (kinds_in variables.now) x)) (known_in state.now.facts x))) }
+        ++ spaced (four_in (known_in state.now.facts j))) }
     ensures sizes { OnOk result (sizes.new.items ≡ sizes.old.items
-        ++ length (spaced (told_if (is_one_of arrays (kind_at (kinds_in variables.now) x))
-        (known_in state.now.facts x))) ∷ []) }
+        ++ length (spaced (four_in (known_in state.now.facts j))) ∷ []) }
 {
     let start = text.len();
-    write_one(text, variables, state, arrays, x)?;
+    write_one(text, state, j)?;
     let end = text.len();
     sizes.push(end - start)?;
     Ok(())
 }
 
-// Adds the numbers of the arrays, or of the scalars.
+// Adds the numbers of all values in this order.
 fn add_values(
     text: &mut Vec<u8>,
     sizes: &mut Vec<usize>,
-    variables: &[Variable],
+    order: &Order,
     state: &State,
-    arrays: bool,
 ) -> Result<(), AllocError>
-    requires many { length state.now.layout.types ≡ length variables.now }
+    requires many { length state.now.layout.types ≡ length order.now }
     requires some { state.now.facts ≡ None → ⊥ }
     ensures { OnOk result ((parts : List (List ℕ)) → AreParts parts text.old.items sizes.old.items →
-        AreParts (parts ++ texts_of arrays (kinds_in variables.now) (values_in state.now.facts))
-        text.new.items sizes.new.items) }
+        AreParts (parts ++ texts_at order.now (values_in state.now.facts)) text.new.items sizes.new.items) }
 {
     state.is_stated();
-    for x in 0..variables.len() {
-        add_value(text, sizes, variables, state, arrays, x)?;
+    for p in 0..order.len() {
+        add_value(text, sizes, state, order.slot(p))?;
     }
     Ok(())
 }
@@ -100,24 +91,23 @@ fn add_bounds(
 fn text_of(
     alloc: Global,
     frame: &Frame,
-    variables: &[Variable],
+    order: &Order,
     state: &State,
 ) -> Result<(Vec<u8>, Vec<usize>), AllocError>
     requires layout { state.now.layout ≡ frame.now }
-    requires many { length frame.now.types ≡ length variables.now }
+    requires many { length frame.now.types ≡ length order.now }
     requires some { state.now.facts ≡ None → ⊥ }
     ensures { IfOk result (λ p. (f : Facts) → state.now.facts ≡ Some f →
-        AreParts (parts_of (kinds_in variables.now) f) p.0.items p.1.items) }
+        AreParts (parts_in order.now f) p.0.items p.1.items) }
 {
     let mut text = Vec::new(alloc);
     let mut sizes = Vec::new(alloc);
-    add_values(&mut text, &mut sizes, variables, state, false)?;
-    add_values(&mut text, &mut sizes, variables, state, true)?;
+    add_values(&mut text, &mut sizes, order, state)?;
     add_bounds(&mut text, &mut sizes, frame, state)?;
     Ok((text, sizes))
 }
 
-// Adds what is known of a variable.
+// Adds what is known of a slot.
 fn add_known(values: &mut Vec<Value>, state: &State, x: usize) -> Result<(), AllocError>
     requires place { x < length state.now.layout.types }
     ensures { OnOk result ((v : Known) → known_in state.now.facts x ≡ Some v →
@@ -132,7 +122,7 @@ fn add_known(values: &mut Vec<Value>, state: &State, x: usize) -> Result<(), All
     }
 }
 
-// What is known of each variable.
+// What is known of each slot.
 fn values_of(alloc: Global, state: &State, n: usize) -> Result<Vec<Value>, AllocError>
     requires many { length state.now.layout.types ≡ n }
     requires some { state.now.facts ≡ None → ⊥ }
@@ -150,12 +140,12 @@ fn values_of(alloc: Global, state: &State, n: usize) -> Result<Vec<Value>, Alloc
 pub(crate) fn told_in<'f>(
     alloc: Global,
     frame: &Frame,
-    variables: &[Variable],
+    order: &Order,
     state: State<'f>,
 ) -> Result<Told<'f>, AllocError>
     requires layout { state.layout ≡ frame.now }
-    requires many { length frame.now.types ≡ length variables.now }
-    ensures { IfOk result (λ t. (t.state ≡ state.entry) × IsTold (kinds_in variables.now) frame.now t) }
+    requires many { length frame.now.types ≡ length order.now }
+    ensures { IfOk result (λ t. (t.state ≡ state.entry) × IsToldIn order.now frame.now t) }
 {
     if state.is_bottom() {
         return Ok(Told {
@@ -165,28 +155,14 @@ pub(crate) fn told_in<'f>(
             sizes: Vec::new(alloc),
         });
     }
-    let values = values_of(alloc, &state, variables.len())?;
-    let (text, sizes) = text_of(alloc, frame, variables, &state)?;
+    let values = values_of(alloc, &state, order.len())?;
+    let (text, sizes) = text_of(alloc, frame, order, &state)?;
     Ok(Told {
         state,
         values,
         text,
         sizes,
     })
-}
-
-// Which part is that of a variable.
-fn place_of(variables: &[Variable], x: usize) -> usize
-    requires { x < length variables.now }
-    ensures value { result
-        ≡ (if is_one_of true (kind_at (kinds_in variables.now) x) then length variables.now + x else x) }
-    ensures within { result < 2 * length variables.now }
-{
-    if is_one_of(true, &variables[x]) {
-        variables.len() + x
-    } else {
-        x
-    }
 }
 
 // The numbers of a value.
@@ -210,7 +186,7 @@ fn bounds_text(alloc: Global, frame: &Frame, state: &State) -> Result<Vec<u8>, A
     Ok(text)
 }
 
-// Writes what is known of a variable.
+// Writes what is known of a slot.
 fn put_known(values: &mut Vec<Value>, x: usize, value: Value)
     requires { x < length values.old.items }
     ensures { values.new.items ≡ slice_set values.old.items x value }
@@ -218,19 +194,19 @@ fn put_known(values: &mut Vec<Value>, x: usize, value: Value)
     values[x] = value;
 }
 
-/// What is known of a variable.
-pub(crate) fn value_in(told: &Told, frame: &Frame, variables: &[Variable], x: usize) -> Value
-    requires told { IsTextOf (kinds_in variables.now) frame.now told.now }
+/// What is known of a slot.
+pub(crate) fn value_in(told: &Told, frame: &Frame, order: &Order, x: usize) -> Value
+    requires told { IsTextOf order.now frame.now told.now }
     requires place { x < length frame.now.types }
     ensures { known_in told.now.state.facts x ≡ Some result }
 {
     let _ = frame;
-    let _ = variables;
+    let _ = order;
     told.state.is_stated();
     told.values[x]
 }
 
-// The same state, but for what is known of a variable.
+// The same state, but for what is known of a slot.
 fn with_value<'f>(
     alloc: Global,
     state: &State<'f>,
@@ -245,26 +221,27 @@ fn with_value<'f>(
     state.copy(alloc)?.with_value(alloc, x, value)
 }
 
-/// Another value of a variable.
+/// Another value of a slot.
 pub(crate) fn put_value(
     alloc: Global,
     told: &mut Told,
     frame: &Frame,
-    variables: &[Variable],
+    order: &Order,
     x: usize,
     value: Value,
 ) -> Result<(), AllocError>
-    requires told { IsTextOf (kinds_in variables.now) frame.now told.old }
-    requires many { length frame.now.types ≡ length variables.now }
-    requires place { x < length variables.now }
+    requires told { IsTextOf order.now frame.now told.old }
+    requires many { length frame.now.types ≡ length order.now }
+    requires place { x < length order.now }
     requires value { IsValue (type_at frame.now x) value }
-    ensures told { OnOk result (IsTextOf (kinds_in variables.now) frame.now told.new) }
+    ensures told { OnOk result (IsTextOf order.now frame.now told.new) }
     ensures state { OnOk result (told.new.state.facts ≡ with_known told.old.state.facts x value) }
 {
     told.state.is_stated();
+    order.is_order();
     let part = value_text(alloc, &value)?;
     let state = with_value(alloc, &told.state, x, value)?;
-    let p = place_of(variables, x);
+    let p = order.place(x);
     put(alloc, &mut told.text, &mut told.sizes, p, &part)?;
     put_known(&mut told.values, x, value);
     told.state = state;
@@ -277,26 +254,20 @@ pub(crate) fn put_bounds<'f>(
     alloc: Global,
     told: &mut Told<'f>,
     frame: &Frame,
-    variables: &[Variable],
+    order: &Order,
     state: State<'f>,
 ) -> Result<(), AllocError>
-    requires told { IsTextOf (kinds_in variables.now) frame.now told.old }
-    requires many { length frame.now.types ≡ length variables.now }
+    requires told { IsTextOf order.now frame.now told.old }
+    requires many { length frame.now.types ≡ length order.now }
     requires layout { state.layout ≡ frame.now }
     requires some { state.facts ≡ None → ⊥ }
     requires same { values_in state.facts ≡ values_in told.old.state.facts }
-    ensures told { OnOk result (IsTextOf (kinds_in variables.now) frame.now told.new) }
+    ensures told { OnOk result (IsTextOf order.now frame.now told.new) }
     ensures state { OnOk result (told.new.state ≡ state.entry) }
 {
     told.state.is_stated();
     let part = bounds_text(alloc, frame, &state)?;
-    put(
-        alloc,
-        &mut told.text,
-        &mut told.sizes,
-        2 * variables.len(),
-        &part,
-    )?;
+    put(alloc, &mut told.text, &mut told.sizes, order.len(), &part)?;
     told.state = state;
     Ok(())
 }

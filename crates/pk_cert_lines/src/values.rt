@@ -1,35 +1,19 @@
-// The numbers of the variables, and the octagon's bounds.
+// The numbers of the values, and the octagon's bounds.
 
 ghost use Rattle.std.specs.Prelude.{◌≡◌, ◌++◌, ◌<◌, ◌^◌, OnOk, length, None};
-ghost use Rattle.pk_graph.specs.Kinds.{kind_at};
 ghost use Rattle.pk_state.specs.Changes.{known_in};
-ghost use Rattle.pk_cert_states.specs.Lines.{is_one_of};
-ghost use Rattle.pk_cert_states.specs.Parts.{kinds_in};
-ghost use Rattle.pk_cert_lines.specs.Symbols.{spaced, told_if, cells_in};
+ghost use Rattle.pk_cert_lines.specs.Symbols.{spaced, four_in, cells_in};
 
 use crate::symbols::{write_symbol, write_value};
-use pk_cert_states::is_one_of;
-use pk_graph::Variable;
 use pk_state::State;
 use std::alloc::AllocError;
 
-/// Writes the numbers of a variable, if it is one of the arrays, or of the scalars.
-pub(crate) fn write_one(
-    bytes: &mut Vec<u8>,
-    variables: &[Variable],
-    state: &State,
-    arrays: bool,
-    x: usize,
-) -> Result<(), AllocError>
-    requires place { x < length variables.now }
-    requires many { length state.now.layout.types ≡ length variables.now }
-    ensures { OnOk result (bytes.new.items ≡ bytes.old.items
-        ++ spaced (told_if (is_one_of arrays (kind_at (kinds_in variables.now) x)) (known_in state.now.facts x))) }
+/// Writes the numbers of a slot's value.
+pub(crate) fn write_one(bytes: &mut Vec<u8>, state: &State, j: usize) -> Result<(), AllocError>
+    requires { j < length state.now.layout.types }
+    ensures { OnOk result (bytes.new.items ≡ bytes.old.items ++ spaced (four_in (known_in state.now.facts j))) }
 {
-    if !is_one_of(arrays, &variables[x]) {
-        return Ok(());
-    }
-    match state.value(x) {
+    match state.value(j) {
         None => Ok(()),
         Some(value) => write_value(bytes, &value),
     }

@@ -1,77 +1,69 @@
--- The numbers of variables, one behind the other.
-use Rattle.std.specs.Prelude.{◌≡◌, ℕ, zero, suc, ◌+◌, ◌<◌, Bool, true, false, not, if◌then◌else◌, is_some, is_none, ℤ, ◌≤ℤ◌, List, [], ◌∷◌, ◌++◌, map, length, take, drop, slice_index_or, slice_set, Option, Some, None}
+-- The numbers of values, one behind the other.
+use Rattle.std.specs.Prelude.{◌≡◌, ℕ, zero, suc, ◌+◌, ◌*◌, ◌<◌, ℤ, ◌≤ℤ◌, List, [], ◌∷◌, ◌++◌, map, length, take, drop, slice_index_or, slice_set, Option, Some}
 use Rattle.std.proofs.Common.{arith, inl, inr, refl, sym, ap, subst, ◌∙◌, append_assoc}
-use Rattle.std.proofs.lemmas.List.{length-append, length-map, map-append, append-nil, length-set, get_or-set_other, take-set, length-take-le}
-use Rattle.std.proofs.Math.Seq.{take-length}
-use Rattle.std.proofs.lemmas.Grind.{get_or-set_at}
+use Rattle.std.proofs.lemmas.List.{length-append, length-map, map-append, length-set, get_or-set_other, get_or-take, length-take-le}
+use Rattle.std.proofs.lemmas.Grind.{get_or-set_at, flat_map-append}
+use Rattle.std.proofs.Math.Seq.{take-length, take-suc}
 use Rattle.std.proofs.lemmas.Bool.{cases_eq}
 use Rattle.pk_ctypes.specs.declared.types.IntType.{IntType}
 use Rattle.pk_ctypes.specs.declared.types.IntType.TheVariants.{Int}
 use Rattle.pk_ctypes.specs.Types.{InType}
 use Rattle.pk_congr.specs.Classes.{IsReduced}
-use Rattle.pk_graph.specs.Kinds.{Kind, Kinds, kind_at, type_at}
 use Rattle.pk_value.specs.Known.{Known, any_of}
 use Rattle.pk_cert.specs.declared.rows.Symbol.{Symbol}
 use Rattle.pk_cert.specs.declared.rows.Symbol.TheVariants.{Star, Number, Far}
 use Rattle.pk_cert.specs.Rows.{kept}
+use Rattle.pk_state.specs.Layouts.{Layout, type_at}
+use Rattle.pk_state.specs.Facts.{known_at}
 use Rattle.pk_state.specs.Changes.{IsValue}
-use Rattle.pk_cert_states.specs.Lines.{four_of, is_one_of, fours_of}
-use Rattle.pk_cert_states.specs.Parts.{known_at, number_of, IsFirst, AreIn, AreFirst, AreFilledTo, AreFilled, AreAllFirst, AreAllRead}
+use Rattle.pk_cert_states.specs.Lines.{four_of, fours_at}
+use Rattle.pk_cert_states.specs.Parts.{number_of, slot_at, IsOrder, IsFirst, AreIn, AreFirst, AreFilledTo, AreFilled}
 
--- those of one variable
-abbrev pub four_if : Bool → Known → List (Option ℤ)
-four_if b v = if b then four_of v else []
+-- ---- the values at some slots
 
-four_length : (b : Bool) (v w : Known) → length (four_if b v) ≡ length (four_if b w)
-four_length true v w = refl
-four_length false v w = refl
+pub fours_many : (slots : List ℕ) (vs : List Known) → length (fours_at slots vs) ≡ 4 * length slots
+fours_many [] vs = refl
+fours_many (j ∷ js) vs = omega (arith, length-append (four_of (known_at vs j)) (fours_at js vs), fours_many js vs)
 
-pub fours_length : (a : Bool) (ks : Kinds) (vs ws : List Known) → length vs ≡ length ws → length (fours_of a ks vs) ≡ length (fours_of a ks ws)
-fours_length a [] vs ws e = refl
-fours_length a (k ∷ ks) [] [] e = refl
-fours_length a (k ∷ ks) [] (w ∷ ws) e = absurd (omega (arith, e))
-fours_length a (k ∷ ks) (v ∷ vs) [] e = absurd (omega (arith, e))
-fours_length a (k ∷ ks) (v ∷ vs) (w ∷ ws) e =
-    omega (arith, length-append (four_if (is_one_of a k) v) (fours_of a ks vs), length-append (four_if (is_one_of a k) w) (fours_of a ks ws), four_length (is_one_of a k) v w, fours_length a ks vs ws (omega (arith, e)))
+pub fours_length : (slots : List ℕ) (vs ws : List Known) → length (fours_at slots vs) ≡ length (fours_at slots ws)
+fours_length slots vs ws = fours_many slots vs ∙ sym (fours_many slots ws)
 
--- those before a variable, its own, and those behind it
-pub fours_parted : (a : Bool) (x : ℕ) (ks : Kinds) (vs : List Known) → x < length ks → length vs ≡ length ks
-    → fours_of a ks vs ≡ fours_of a (take x ks) (take x vs) ++ (four_if (is_one_of a (kind_at ks x)) (known_at vs x) ++ fours_of a (drop (suc x) ks) (drop (suc x) vs))
-fours_parted a x [] vs h e = absurd (omega (arith, h))
-fours_parted a x (k ∷ ks) [] h e = absurd (omega (arith, e))
-fours_parted a zero (k ∷ ks) (v ∷ vs) h e = refl
-fours_parted a (suc x) (k ∷ ks) (v ∷ vs) h e =
-    ap (λ r. four_if (is_one_of a k) v ++ r) (fours_parted a x ks vs (omega (arith, h)) (omega (arith, e)))
-    ∙ sym (append_assoc (four_if (is_one_of a k) v) (fours_of a (take x ks) (take x vs)) (four_if (is_one_of a (kind_at ks x)) (known_at vs x) ++ fours_of a (drop (suc x) ks) (drop (suc x) vs)))
+-- those before a place, its own, and those behind it
+pub fours_parted : (p : ℕ) (slots : List ℕ) (vs : List Known) → p < length slots
+    → fours_at slots vs ≡ fours_at (take p slots) vs ++ (four_of (known_at vs (slot_at slots p)) ++ fours_at (drop (suc p) slots) vs)
+fours_parted p [] vs h = absurd (omega (arith, h))
+fours_parted zero (j ∷ js) vs h = refl
+fours_parted (suc p) (j ∷ js) vs h =
+    ap (λ r. four_of (known_at vs j) ++ r) (fours_parted p js vs (omega (arith, h)))
+    ∙ sym (append_assoc (four_of (known_at vs j)) (fours_at (take p js) vs) (four_of (known_at vs (slot_at js p)) ++ fours_at (drop (suc p) js) vs))
 
--- one more variable
-pub fours_more : (a : Bool) (x : ℕ) (ks : Kinds) (vs : List Known) → x < length ks → length vs ≡ length ks
-    → fours_of a (take (suc x) ks) (take (suc x) vs) ≡ fours_of a (take x ks) (take x vs) ++ four_if (is_one_of a (kind_at ks x)) (known_at vs x)
-fours_more a x [] vs h e = absurd (omega (arith, h))
-fours_more a x (k ∷ ks) [] h e = absurd (omega (arith, e))
-fours_more a zero (k ∷ ks) (v ∷ vs) h e = append-nil (four_if (is_one_of a k) v)
-fours_more a (suc x) (k ∷ ks) (v ∷ vs) h e =
-    ap (λ r. four_if (is_one_of a k) v ++ r) (fours_more a x ks vs (omega (arith, h)) (omega (arith, e)))
-    ∙ sym (append_assoc (four_if (is_one_of a k) v) (fours_of a (take x ks) (take x vs)) (four_if (is_one_of a (kind_at ks x)) (known_at vs x)))
-
--- of a variable that is none of these nothing is told
-pub fours_other : (a : Bool) (x : ℕ) (ks : Kinds) (vs : List Known) (v : Known) → is_one_of a (kind_at ks x) ≡ false → fours_of a ks (slice_set vs x v) ≡ fours_of a ks vs
-fours_other a x [] vs v h = refl
-fours_other a x (k ∷ ks) [] v h = refl
-fours_other a zero (k ∷ ks) (w ∷ vs) v h = ap (λ b. four_if b v ++ fours_of a ks vs) h ∙ ap (λ b. four_if b w ++ fours_of a ks vs) (sym h)
-fours_other a (suc x) (k ∷ ks) (w ∷ vs) v h = ap (λ r. four_if (is_one_of a k) w ++ r) (fours_other a x ks vs v h)
-
-pub other_kind : (a : Bool) (k : Kind) → is_one_of (not a) k ≡ not (is_one_of a k)
-other_kind true k = by k.length
+-- one more place
+pub fours_more : (p : ℕ) (slots : List ℕ) (vs : List Known) → p < length slots → fours_at (take (p + 1) slots) vs ≡ fours_at (take p slots) vs ++ four_of (known_at vs (slot_at slots p))
+fours_more p slots vs h =
+    let up : p + 1 ≡ suc p = omega arith in
+    ap (λ n. fours_at (take n slots) vs) up ∙ ap (λ (js : List ℕ). fours_at js vs) (take-suc slots p 0 h)
+    ∙ flat_map-append (λ (j : ℕ). four_of (known_at vs j)) (take p slots) (slot_at slots p ∷ [])
+    ∙ ap (λ r. fours_at (take p slots) vs ++ r) (last (four_of (known_at vs (slot_at slots p))))
   where
-    by : (o : Option ℕ) → is_none o ≡ not (is_some o)
-    by None = refl
-    by (Some n) = refl
-other_kind false k = by k.length
-  where
-    by : (o : Option ℕ) → is_some o ≡ not (is_none o)
-    by None = refl
-    by (Some n) = refl
+    last : (zs : List (Option ℤ)) → zs ++ [] ≡ zs
+    last [] = refl
+    last (z ∷ zs) = ap (λ r. z ∷ r) (last zs)
+
+-- a slot of which the value isn't told
+pub fours_other : (slots : List ℕ) (vs : List Known) (j : ℕ) (v : Known) → ((q : ℕ) → q < length slots → slot_at slots q ≡ j → ⊥) → fours_at slots (slice_set vs j v) ≡ fours_at slots vs
+fours_other [] vs j v other = refl
+fours_other (i ∷ is) vs j v other =
+    let here : known_at (slice_set vs j v) i ≡ known_at vs i = get_or-set_other vs j i v (any_of Int) (λ e. other 0 (omega arith) e) in
+    ap (λ (k : Known). four_of k ++ fours_at is (slice_set vs j v)) here
+    ∙ ap (λ r. four_of (known_at vs i) ++ r) (fours_other is vs j v (λ q h. other (suc q) (omega (arith, h))))
+
+-- each stands once, so not before its place
+not_before : (slots : List ℕ) (p : ℕ) → IsOrder slots → p < length slots → (q : ℕ) → q < length (take p slots) → slot_at (take p slots) q ≡ slot_at slots p → ⊥
+not_before slots p order h q l e =
+    let size = length-take-le p slots (omega (arith, h)) in
+    let before : q < p = omega (arith, l, size) in
+    let same : q ≡ p = order.once q p (omega (arith, before, h)) h (sym (get_or-take p slots q 0 before) ∙ e) in
+    omega (arith, same, before)
 
 cons_same : {A : Type 0} (c d : A) (a b : List A) → c ≡ d → a ≡ b → c ∷ a ≡ d ∷ b
 cons_same c d a b h t = ap (λ z. z ∷ a) h ∙ ap (λ z. d ∷ z) t
@@ -140,108 +132,59 @@ four_read t a b c d rest symbols lo hi m r k s ea eb ec ed h =
 
 -- ---- filling
 
-pub filled_begun : (ks : Kinds) (arrays : Bool) (symbols : List Symbol) (vs : List Known) → AreIn ks vs → AreFilledTo ks arrays symbols symbols vs vs 0
-filled_begun ks arrays symbols vs h = record { values = h; told = refl; others = refl }
+pub filled_begun : (l : Layout) (slots : List ℕ) (symbols : List Symbol) (vs : List Known) → AreIn l vs → AreFilledTo l slots symbols symbols vs 0
+filled_begun l slots symbols vs h = record { values = h; told = refl }
 
-wanted_four : (b : Bool) (v : Known) → b ≡ true → four_if b v ≡ four_of v
-wanted_four true v e = refl
-wanted_four false v e = absurd (cc)
-
-unwanted_four : (b : Bool) (v : Known) → b ≡ false → four_if b v ≡ []
-unwanted_four true v e = absurd (cc)
-unwanted_four false v e = refl
-
--- no value is written for a variable that is none of these
-pub filled_past : (ks : Kinds) (arrays : Bool) (symbols rest : List Symbol) (before after : List Known) (x : ℕ) → AreFilledTo ks arrays symbols rest before after x → x < length ks → is_one_of arrays (kind_at ks x) ≡ false
-    → AreFilledTo ks arrays symbols rest before after (x + 1)
-filled_past ks arrays symbols rest before after x h p none = let step : x + 1 ≡ suc x = omega arith in record {
-  values = h.values;
-  told =
-      h.told
-      ∙ ap (λ (r : List (Option ℤ)). map kept r ++ rest)
-      (sym (ap (λ n. fours_of arrays (take n ks) (take n after)) step ∙ fours_more arrays x ks after p h.values.size
-      ∙ ap (λ r. fours_of arrays (take x ks) (take x after) ++ r) (unwanted_four (is_one_of arrays (kind_at ks x)) (known_at after x) none)
-      ∙ append-nil (fours_of arrays (take x ks) (take x after))));
-  others = h.others;
-}
-
-in_set : (ks : Kinds) (vs : List Known) (x : ℕ) (v : Known) → AreIn ks vs → x < length ks → IsValue (type_at ks x) v → AreIn ks (slice_set vs x v)
-in_set ks vs x v h p is = record {
-  size = length-set vs x v ∙ h.size;
-  each = λ y q. elim (cases_eq y x) [
-    | inl s ↦ subst (λ (k : Known). IsValue (type_at ks y) k) (sym (get_or-set_at vs x y v (any_of Int) s (omega (arith, p, h.size)))) (subst (λ (z : ℕ). IsValue (type_at ks z) v) (sym s) is)
-    | inr s ↦ subst (λ (k : Known). IsValue (type_at ks y) k) (sym (get_or-set_other vs x y v (any_of Int) s)) (h.each y q)
+in_set : (l : Layout) (vs : List Known) (j : ℕ) (v : Known) → AreIn l vs → j < length l.types → IsValue (type_at l j) v → AreIn l (slice_set vs j v)
+in_set l vs j v h p is = record {
+  size = length-set vs j v ∙ h.size;
+  each = λ y q. elim (cases_eq y j) [
+    | inl s ↦ subst (λ (k : Known). IsValue (type_at l y) k) (sym (get_or-set_at vs j y v (any_of Int) s (omega (arith, p, h.size)))) (subst (λ (z : ℕ). IsValue (type_at l z) v) (sym s) is)
+    | inr s ↦ subst (λ (k : Known). IsValue (type_at l y) k) (sym (get_or-set_other vs j y v (any_of Int) s)) (h.each y q)
   ];
 }
 
 -- a value is written
-pub filled_on : (ks : Kinds) (arrays : Bool) (symbols rest behind : List Symbol) (before after : List Known) (x : ℕ) (v : Known) → AreFilledTo ks arrays symbols rest before after x → x < length ks → is_one_of arrays (kind_at ks x) ≡ true
-    → IsValue (type_at ks x) v → rest ≡ map kept (four_of v) ++ behind → AreFilledTo ks arrays symbols behind before (slice_set after x v) (x + 1)
-filled_on ks arrays symbols rest behind before after x v h p one is told =
-    let now = slice_set after x v in
-    let made = in_set ks after x v h.values p is in
-    let prefix : take x now ≡ take x after = take-set after x v in
-    let here : known_at now x ≡ v = get_or-set_at after x x v (any_of Int) refl (omega (arith, p, h.values.size)) in
-    let step : x + 1 ≡ suc x = omega arith in
-    let at_end : fours_of arrays (take (x + 1) ks) (take (x + 1) now) ≡ fours_of arrays (take x ks) (take x after) ++ four_of v =
-    ap (λ n. fours_of arrays (take n ks) (take n now)) step ∙ fours_more arrays x ks now p made.size
-    ∙ ap (λ (t : List Known). fours_of arrays (take x ks) t ++ four_if (is_one_of arrays (kind_at ks x)) (known_at now x)) prefix
-    ∙ ap (λ r. fours_of arrays (take x ks) (take x after) ++ r) (wanted_four (is_one_of arrays (kind_at ks x)) (known_at now x) one ∙ ap four_of here) in
+pub filled_on : (l : Layout) (slots : List ℕ) (symbols rest behind : List Symbol) (vs : List Known) (p j : ℕ) (v : Known) → IsOrder slots → length l.types ≡ length slots → AreFilledTo l slots symbols rest vs p → p < length slots → j ≡ slot_at slots p
+    → IsValue (type_at l j) v → rest ≡ map kept (four_of v) ++ behind → AreFilledTo l slots symbols behind (slice_set vs j v) (p + 1)
+filled_on l slots symbols rest behind vs p j v order same h below at is told =
+    let inside : j < length l.types = omega (arith, at, order.below p below, same) in
+    let now = slice_set vs j v in
+    let here : known_at now (slot_at slots p) ≡ v = get_or-set_at vs j (slot_at slots p) v (any_of Int) (sym at) (omega (arith, inside, h.values.size)) in
+    let before : fours_at (take p slots) now ≡ fours_at (take p slots) vs = fours_other (take p slots) vs j v (λ q l e. not_before slots p order below q l (e ∙ at)) in
+    let at_end : fours_at (take (p + 1) slots) now ≡ fours_at (take p slots) vs ++ four_of v =
+    fours_more p slots now below ∙ ap (λ r. r ++ four_of (known_at now (slot_at slots p))) before ∙ ap (λ (k : Known). fours_at (take p slots) vs ++ four_of k) here in
     record {
-      values = made;
-      told = h.told ∙ ap (λ r. map kept (fours_of arrays (take x ks) (take x after)) ++ r) told
-          ∙ sym (append_assoc (map kept (fours_of arrays (take x ks) (take x after))) (map kept (four_of v)) behind)
-          ∙ ap (λ r. r ++ behind) (sym (map-append kept (fours_of arrays (take x ks) (take x after)) (four_of v)))
+      values = in_set l vs j v h.values inside is;
+      told = h.told ∙ ap (λ r. map kept (fours_at (take p slots) vs) ++ r) told
+          ∙ sym (append_assoc (map kept (fours_at (take p slots) vs)) (map kept (four_of v)) behind)
+          ∙ ap (λ r. r ++ behind) (sym (map-append kept (fours_at (take p slots) vs) (four_of v)))
           ∙ ap (λ (r : List (Option ℤ)). map kept r ++ behind) (sym at_end);
-      others = fours_other (not arrays) x ks after v (other_kind arrays (kind_at ks x) ∙ ap not one) ∙ h.others;
     }
 
--- where no value stands next, there are none of all variables
-pub filled_not : (ks : Kinds) (arrays : Bool) (symbols rest : List Symbol) (before after : List Known) (x : ℕ) → AreFilledTo ks arrays symbols rest before after x → x < length ks → is_one_of arrays (kind_at ks x) ≡ true
-    → ((k : Known) → IsFirst (type_at ks x) rest k → ⊥) → (vs : List Known) → AreFirst ks arrays symbols vs → ⊥
-filled_not ks arrays symbols rest before after x h p one none vs f =
-    let parted = fours_parted arrays x ks vs p f.values.size in
-    let front = fours_of arrays (take x ks) (take x vs) in
-    let own = four_if (is_one_of arrays (kind_at ks x)) (known_at vs x) in
-    let behind = fours_of arrays (drop (suc x) ks) (drop (suc x) vs) in
+-- where no value stands next, there are none of all slots
+pub filled_not : (l : Layout) (slots : List ℕ) (symbols rest : List Symbol) (vs ws : List Known) (p j : ℕ) → IsOrder slots → length l.types ≡ length slots → AreFilledTo l slots symbols rest vs p → p < length slots → j ≡ slot_at slots p
+    → ((k : Known) → IsFirst (type_at l j) rest k → ⊥) → AreFirst l slots symbols ws → ⊥
+filled_not l slots symbols rest vs ws p j order same h below at none f =
+    let inside : j < length l.types = omega (arith, at, order.below p below, same) in
+    let front = fours_at (take p slots) ws in
+    let own = four_of (known_at ws (slot_at slots p)) in
+    let behind = fours_at (drop (suc p) slots) ws in
     let whole : symbols ≡ map kept front ++ (map kept own ++ (map kept behind ++ f.told.0)) =
-    f.told.1 ∙ ap (λ (r : List (Option ℤ)). map kept r ++ f.told.0) parted
+    f.told.1 ∙ ap (λ (r : List (Option ℤ)). map kept r ++ f.told.0) (fours_parted p slots ws below)
     ∙ ap (λ r. r ++ f.told.0) (map-append kept front (own ++ behind) ∙ ap (λ r. map kept front ++ r) (map-append kept own behind))
     ∙ append_assoc (map kept front) (map kept own ++ map kept behind) f.told.0
     ∙ ap (λ r. map kept front ++ r) (append_assoc (map kept own) (map kept behind) f.told.0) in
-    let mine = fours_of arrays (take x ks) (take x after) in
-    let sizes : length (take x after) ≡ length (take x vs) = length-take-le x after (omega (arith, p, h.values.size)) ∙ sym (length-take-le x vs (omega (arith, p, f.values.size))) in
-    let as_long : length (map kept mine) ≡ length (map kept front) = length-map mine kept ∙ fours_length arrays (take x ks) (take x after) (take x vs) sizes ∙ sym (length-map front kept) in
-    let same = parted_same (map kept mine) (map kept front) rest (map kept own ++ (map kept behind ++ f.told.0)) as_long (sym h.told ∙ whole) in
-    none (known_at vs x) (record {
-      value = f.values.each x p;
-      told = (map kept behind ++ f.told.0, same.1 ∙ ap (λ (r : List (Option ℤ)). map kept r ++ (map kept behind ++ f.told.0)) (wanted_four (is_one_of arrays (kind_at ks x)) (known_at vs x) one));
+    let mine = fours_at (take p slots) vs in
+    let as_long : length (map kept mine) ≡ length (map kept front) = length-map mine kept ∙ fours_length (take p slots) vs ws ∙ sym (length-map front kept) in
+    let parted = parted_same (map kept mine) (map kept front) rest (map kept own ++ (map kept behind ++ f.told.0)) as_long (sym h.told ∙ whole) in
+    none (known_at ws j) (record {
+      value = f.values.each j inside;
+      told = (map kept behind ++ f.told.0, parted.1 ∙ ap (λ (i : ℕ). map kept (four_of (known_at ws i)) ++ (map kept behind ++ f.told.0)) (sym at));
     })
 
-pub filled_all : (ks : Kinds) (arrays : Bool) (symbols rest : List Symbol) (before after : List Known) (x : ℕ) → AreFilledTo ks arrays symbols rest before after x → x ≡ length ks → AreFilled ks arrays symbols rest before after
-filled_all ks arrays symbols rest before after x h e = record {
+pub filled_all : (l : Layout) (slots : List ℕ) (symbols rest : List Symbol) (vs : List Known) (p : ℕ) → AreFilledTo l slots symbols rest vs p → p ≡ length slots → AreFilled l slots symbols rest vs
+filled_all l slots symbols rest vs p h e = record {
   values = h.values;
-  told = h.told ∙ ap (λ (l : Kinds). map kept (fours_of arrays l (take x after)) ++ rest) (ap (λ n. take n ks) e ∙ take-length ks) ∙ ap (λ (l : List Known). map kept (fours_of arrays ks l) ++ rest) (ap (λ n. take n after) (e ∙ sym h.values.size) ∙ take-length after);
-  others = h.others;
-}
-
--- ---- scalars, and then arrays
-
-pub first_all : (ks : Kinds) (symbols : List Symbol) (vs : List Known) → AreAllFirst ks symbols vs → AreFirst ks false symbols vs
-first_all ks symbols vs h = record { values = h.values; told = (map kept (fours_of true ks vs) ++ h.told.0, h.told.1) }
-
-pub all_not : (ks : Kinds) (symbols rest : List Symbol) (before after vs : List Known) → AreFilled ks false symbols rest before after → ((ws : List Known) → AreFirst ks true rest ws → ⊥) → AreAllFirst ks symbols vs → ⊥
-all_not ks symbols rest before after vs h none f =
-    let mine = fours_of false ks after in
-    let other = fours_of false ks vs in
-    let long : length (map kept mine) ≡ length (map kept other) = length-map mine kept ∙ fours_length false ks after vs (h.values.size ∙ sym f.values.size) ∙ sym (length-map other kept) in
-    let same = parted_same (map kept mine) (map kept other) rest (map kept (fours_of true ks vs) ++ f.told.0) long (sym h.told ∙ f.told.1) in
-    none vs (record { values = f.values; told = (f.told.0, same.1) })
-
-pub all_read : (ks : Kinds) (symbols rest behind : List Symbol) (before between after : List Known) → AreFilled ks false symbols rest before between → AreFilled ks true rest behind between after → AreAllRead ks symbols behind after
-all_read ks symbols rest behind before between after h g = record {
-  values = g.values;
-  told =
-      h.told ∙ ap (λ (r : List Symbol). map kept (fours_of false ks between) ++ r) g.told
-      ∙ ap (λ (r : List (Option ℤ)). map kept r ++ (map kept (fours_of true ks after) ++ behind)) (sym g.others);
+  told = h.told ∙ ap (λ (js : List ℕ). map kept (fours_at js vs) ++ rest) (ap (λ n. take n slots) e ∙ take-length slots);
 }

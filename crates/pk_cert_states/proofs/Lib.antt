@@ -1,6 +1,6 @@
+pub mod Ordering
 pub mod Fours
 mod Filling
-pub mod Variables
 mod Writing
 pub mod Reading
 pub mod Telling

@@ -1,110 +1,111 @@
 -- A line is that of a state, or of none.
-use Rattle.std.specs.Prelude.{◌≡◌, ℕ, ◌+◌, Bool, true, false, if◌then◌else◌, ℤ, List, [], ◌∷◌, ◌++◌, map, length, take, drop, Option, Some, None}
-use Rattle.std.proofs.Common.{arith, refl, sym, ap, subst, ◌∙◌, inl, take-append-drop}
-use Rattle.std.proofs.lemmas.List.{length-append}
-use Rattle.std.proofs.Math.Seq.{take-append_seam, drop-append_seam}
-use Rattle.pk_graph.specs.Kinds.{Kind, Kinds}
+use Rattle.std.specs.Prelude.{◌≡◌, ℕ, ◌<◌, ℤ, List, ◌++◌, map, length, Option, Some, None}
+use Rattle.std.specs.List.{flat_map, range_with_len}
+use Rattle.std.proofs.Common.{arith, refl, sym, ap, subst, ◌∙◌, inl}
+use Rattle.std.proofs.lemmas.List.{length-map, get_or-map, ext_get_or}
+use Rattle.std.proofs.lemmas.List.Folds.{flat_map-map}
+use Rattle.std.proofs.lemmas.List.FromFn.{length-map-range_with_len, get_or-map-range_with_len}
+use Rattle.pk_ctypes.specs.declared.types.IntType.TheVariants.{Int}
 use Rattle.pk_graph.specs.Graphs.{kinds_of}
-use Rattle.pk_value.specs.Known.{Known}
+use Rattle.pk_value.specs.Known.{Known, any_of}
 use Rattle.pk_octmat.specs.Octagon.{IsOctagon}
-use Rattle.pk_state.specs.Layouts.{Layout}
-use Rattle.pk_state.specs.Facts.{Facts, AreValues, AreFacts, AreFactsIf}
+use Rattle.pk_state.specs.Layouts.{Layout, type_at}
+use Rattle.pk_state.specs.Facts.{Facts, AreValues, AreFacts, AreFactsIf, known_at}
+use Rattle.pk_state.specs.Changes.{IsValue}
 use Rattle.pk_transfer.specs.Graphs.{layout_of}
-use Rattle.pk_cert_states.specs.Lines.{is_one_of, fours_of, symbols_of, line_of, IsState}
-use Rattle.pk_cert_states.specs.Parts.{AreIn}
+use Rattle.pk_cert_states.specs.Lines.{line_slots, four_of, fours_at, symbols_in, line_of, IsState}
+use Rattle.pk_cert_states.specs.Parts.{slot_at, IsOrder, AreIn}
 use Rattle.pk_cert_states.specs.Laws.{EveryLineIsSettled}
-use Rattle.pk_cert_states.proofs.Fours.{four_if}
-use Rattle.pk_cert_states.proofs.Reading.{in_kinds, in_types, sized, types_of}
-use Rattle.pk_cert_states.proofs.Told.{Told, told_and, told_as}
-use Rattle.pk_cert_states.proofs.ToldValues.{HaveValues, told_values, values_in, values_of}
+use Rattle.pk_cert_states.proofs.Ordering.{where_in, where_is, where_below, line_order}
+use Rattle.pk_cert_states.proofs.Reading.{values_in}
+use Rattle.pk_cert_states.proofs.Telling.{as_many}
+use Rattle.pk_cert_states.proofs.Told.{Told, told_as}
+use Rattle.pk_cert_states.proofs.ToldValues.{AreOf, HaveValues, told_values, many_of, value_of, values_of}
 use Rattle.pk_cert_states.proofs.ToldBounds.{told_octagon}
 
--- ---- how many numbers the scalars have, and the arrays
+-- the values of the slots, of which these are the values in their order
+abbrev restored : List ℕ → List Known → List Known
+restored slots ws = map (λ j. known_at ws (where_in slots j)) (range_with_len 0 (length slots))
 
-many : Bool → Kinds → ℕ
-many a [] = 0
-many a (k ∷ ks) = (if is_one_of a k then 4 else 0) + many a ks
+restored_at : (slots : List ℕ) (ws : List Known) (j : ℕ) → j < length slots → known_at (restored slots ws) j ≡ known_at ws (where_in slots j)
+restored_at slots ws j h = get_or-map-range_with_len (λ i. known_at ws (where_in slots i)) 0 (length slots) j j (any_of Int) h (omega arith)
 
-four_many : (b : Bool) (v : Known) → length (four_if b v) ≡ (if b then 4 else 0)
-four_many true v = refl
-four_many false v = refl
+restored_many : (slots : List ℕ) (ws : List Known) → length (restored slots ws) ≡ length slots
+restored_many slots ws = length-map-range_with_len (λ i. known_at ws (where_in slots i)) 0 (length slots)
 
-fours_many : (a : Bool) (ks : Kinds) (vs : List Known) → length vs ≡ length ks → length (fours_of a ks vs) ≡ many a ks
-unfolding many
-fours_many a [] vs e = refl
-fours_many a (k ∷ ks) [] e = absurd (omega (arith, e))
-fours_many a (k ∷ ks) (v ∷ vs) e =
-    omega (arith, length-append (four_if (is_one_of a k) v) (fours_of a ks vs), four_many (is_one_of a k) v, fours_many a ks vs (omega (arith, e)))
+-- in their order they are these again
+back_again : (slots : List ℕ) (ws : List Known) → IsOrder slots → length ws ≡ length slots → map (known_at (restored slots ws)) slots ≡ ws
+back_again slots ws order e =
+    ext_get_or (any_of Int) (map (known_at (restored slots ws)) slots) ws (length-map slots (known_at (restored slots ws)) ∙ sym e)
+    (λ p h.
+    let below : p < length slots = omega (arith, h, length-map slots (known_at (restored slots ws))) in
+    get_or-map (known_at (restored slots ws)) slots p 0 (any_of Int) below ∙ restored_at slots ws (slot_at slots p) (order.below p below) ∙ ap (known_at ws) (where_is slots p order below))
 
--- what stands first is taken, what stands behind is left
-taken : {A : Type 0} (n : ℕ) (x y zs : List A) → length x ≡ n → zs ≡ x ++ y → (take n zs ≡ x) × (drop n zs ≡ y)
-taken {A} n x y zs l e = (
-  ap (take n) e ∙ ap (λ (k : ℕ). take k (x ++ y)) (sym l) ∙ take-append_seam x y,
-  ap (drop n) e ∙ ap (λ (k : ℕ). drop k (x ++ y)) (sym l) ∙ drop-append_seam x y,
-)
-
--- ---- the facts of symbols
+fours_mapped : (slots : List ℕ) (vs : List Known) → flat_map four_of (map (known_at vs) slots) ≡ fours_at slots vs
+fours_mapped slots vs = flat_map-map four_of (known_at vs) slots
 
 -- facts with these symbols
-record IsOf (l : Layout) (ks : Kinds) (zs : List (Option ℤ)) : Type 0 where
+record IsOf (l : Layout) (slots : List ℕ) (zs : List (Option ℤ)) : Type 0 where
   facts : Facts
   are : AreFacts l facts
-  told : zs ≡ symbols_of ks facts
+  told : zs ≡ symbols_in slots facts
 
-are_values : (l : Layout) (ks : Kinds) (vs : List Known) → l.types ≡ map (λ (k : Kind). k.int_type) ks → AreIn ks vs → AreValues l vs
-are_values l ks vs e h = record {
-  size = sized l ks vs e h;
-  inside = λ x p. (in_types l ks vs e h x p).inside;
-  some = λ x p. (in_types l ks vs e h x p).some;
-  classes = λ x p. (in_types l ks vs e h x p).class;
+are_values : (l : Layout) (vs : List Known) → AreIn l vs → AreValues l vs
+are_values l vs h = record {
+  size = h.size;
+  inside = λ j p. (h.each j (omega (arith, p, h.size))).inside;
+  some = λ j p. (h.each j (omega (arith, p, h.size))).some;
+  classes = λ j p. (h.each j (omega (arith, p, h.size))).class;
 }
 
-module _ (l : Layout) (ks : Kinds) (types : l.types ≡ map (λ (k : Kind). k.int_type) ks) (zs : List (Option ℤ)) where
-  abbrev behind : List (Option ℤ)
-  behind = drop (many false ks) zs
+module _ (l : Layout) (slots : List ℕ) (order : IsOrder slots) (same : length l.types ≡ length slots) where
+  abbrev Bounds : List (Option ℤ) → Type 0
+  Bounds cells = IsOctagon record { vars = length l.chosen; cells = cells }
 
-  abbrev Parts : Type 0
-  Parts =
-      HaveValues ks (take (many false ks) zs) (take (many true ks) behind)
-      × IsOctagon record { vars = length l.chosen; cells = drop (many true ks) behind }
+  abbrev Parts : List (Option ℤ) → Type 0
+  Parts = HaveValues (map (type_at l) slots) Bounds
 
-  of_parts : Parts → IsOf l ks zs
-  of_parts p = record {
-    facts = record { values = p.0.values; octagon = record { vars = length l.chosen; cells = drop (many true ks) behind } };
-    are = record { values = are_values l ks p.0.values types (values_in ks (take (many false ks) zs) (take (many true ks) behind) p.0); vars = refl; octagon = p.1 };
-    told = sym (take-append-drop (many false ks) zs) ∙ front ∙ ap (λ (r : List (Option ℤ)). fours_of false ks p.0.values ++ r) (sym (take-append-drop (many true ks) behind) ∙ ap (λ (r : List (Option ℤ)). r ++ drop (many true ks) behind) p.0.second);
+  restored_in : (ws : List Known) → AreOf (map (type_at l) slots) ws → AreIn l (restored slots ws)
+  restored_in ws h = record {
+    size = restored_many slots ws ∙ sym same;
+    each = λ j p.
+        let below : j < length slots = omega (arith, p, same) in
+        let there = where_below slots j order below in
+        subst (λ (k : Known). IsValue (type_at l j) k) (sym (restored_at slots ws j below))
+        (subst (λ (i : ℕ). IsValue (type_at l i) (known_at ws (where_in slots j))) there.1 (value_of l slots ws h (where_in slots j) there.0));
   }
-    where
-      front : take (many false ks) zs ++ drop (many false ks) zs ≡ fours_of false ks p.0.values ++ behind
-      front = ap (λ (r : List (Option ℤ)). r ++ drop (many false ks) zs) p.0.first
 
-  parts_of : IsOf l ks zs → Parts
-  parts_of h =
-      let vs : List Known = h.facts.values in
-      let are = in_kinds l ks vs types h.are.values in
-      let one = taken (many false ks) (fours_of false ks vs) (fours_of true ks vs ++ h.facts.octagon.cells) zs (fours_many false ks vs are.size) h.told in
-      let two = taken (many true ks) (fours_of true ks vs) h.facts.octagon.cells behind (fours_many true ks vs are.size) one.1 in (
-        subst (λ (a : List (Option ℤ)). HaveValues ks a (take (many true ks) behind)) (sym one.0)
-            (subst (λ (b : List (Option ℤ)). HaveValues ks (fours_of false ks vs) b) (sym two.0) (values_of ks vs are)),
-        subst (λ (cells : List (Option ℤ)). IsOctagon record { vars = length l.chosen; cells = cells }) (sym two.1)
-            (subst (λ (n : ℕ). IsOctagon record { vars = n; cells = h.facts.octagon.cells }) h.are.vars h.are.octagon),
-      )
+  of_parts : (zs : List (Option ℤ)) → Parts zs → IsOf l slots zs
+  of_parts zs p =
+      let many : length p.values ≡ length slots = many_of (map (type_at l) slots) p.values p.are ∙ length-map slots (type_at l) in
+      let numbers : flat_map four_of p.values ≡ fours_at slots (restored slots p.values) = ap (flat_map four_of) (sym (back_again slots p.values order many)) ∙ fours_mapped slots (restored slots p.values) in
+      record {
+        facts = record { values = restored slots p.values; octagon = record { vars = length l.chosen; cells = p.rest } };
+        are = record { values = are_values l (restored slots p.values) (restored_in p.values p.are); vars = refl; octagon = p.more };
+        told = p.told ∙ ap (λ r. r ++ p.rest) numbers;
+      }
 
-  told_symbols : Told (IsOf l ks zs)
-  told_symbols =
-      told_as Parts (IsOf l ks zs) of_parts parts_of
-      (told_and (HaveValues ks (take (many false ks) zs) (take (many true ks) behind)) (IsOctagon record { vars = length l.chosen; cells = drop (many true ks) behind })
-      (told_values ks (take (many false ks) zs) (take (many true ks) behind)) (λ _. told_octagon (length l.chosen) (drop (many true ks) behind)))
+  parts_of : (zs : List (Option ℤ)) → IsOf l slots zs → Parts zs
+  parts_of zs h = record {
+    values = map (known_at h.facts.values) slots;
+    rest = h.facts.octagon.cells;
+    are = values_of l slots h.facts.values (values_in l h.facts.values h.are.values) (λ p q. omega (arith, order.below p q, same));
+    told = h.told ∙ ap (λ r. r ++ h.facts.octagon.cells) (sym (fours_mapped slots h.facts.values));
+    more = subst (λ (n : ℕ). IsOctagon record { vars = n; cells = h.facts.octagon.cells }) h.are.vars h.are.octagon;
+  }
+
+  told_symbols : (zs : List (Option ℤ)) → Told (IsOf l slots zs)
+  told_symbols zs = told_as (Parts zs) (IsOf l slots zs) (of_parts zs) (parts_of zs) (told_values (map (type_at l) slots) Bounds (told_octagon (length l.chosen)) zs)
 
 -- ---- the law
 
 pub every_line_is_settled : EveryLineIsSettled
 every_line_is_settled g n None = inl (None, tt, refl)
 every_line_is_settled g n (Some zs) =
-    told_as (IsOf (layout_of g n) (kinds_of g) zs) (IsState (kinds_of g) (layout_of g n) (Some zs))
+    told_as (IsOf (layout_of g n) (line_slots (kinds_of g)) zs) (IsState (kinds_of g) (layout_of g n) (Some zs))
     (λ h. (Some h.facts, h.are, ap (λ (s : List (Option ℤ)). Some s) h.told)) (λ s. back s.0 s.1 s.2)
-    (told_symbols (layout_of g n) (kinds_of g) (types_of g n (layout_of g n) (kinds_of g) refl refl) zs)
+    (told_symbols (layout_of g n) (line_slots (kinds_of g)) (line_order (kinds_of g)) (as_many g n) zs)
   where
-    back : (f : Option Facts) → AreFactsIf (layout_of g n) f → Some zs ≡ line_of (kinds_of g) f → IsOf (layout_of g n) (kinds_of g) zs
+    back : (f : Option Facts) → AreFactsIf (layout_of g n) f → Some zs ≡ line_of (kinds_of g) f → IsOf (layout_of g n) (line_slots (kinds_of g)) zs
     back None are e = absurd (cc)
     back (Some f) are e = record { facts = f; are = are; told = cc }

@@ -1,13 +1,14 @@
 -- Lines of facts: their numbers are short, and they tell the facts.
-use Rattle.std.specs.Prelude.{◌≡◌, ℕ, zero, suc, ◌+◌, ◌*◌, ◌/◌, ◌%◌, ◌<◌, ◌≤◌, ◌^◌, Bool, true, false, nat_lt, if◌then◌else◌, is_some, is_none, ℤ, unsigned_abs, List, [], ◌∷◌, ◌++◌, map, length, Option, Some, None, IfSome, slice_index_or}
+use Rattle.std.specs.Prelude.{◌≡◌, ℕ, zero, suc, ◌+◌, ◌*◌, ◌/◌, ◌%◌, ◌<◌, ◌≤◌, ◌^◌, Bool, true, false, nat_lt, if◌then◌else◌, is_some, ℤ, unsigned_abs, List, [], ◌∷◌, ◌++◌, map, length, Option, Some, None, IfSome, slice_index_or}
 use Rattle.std.proofs.Common.{arith, refl, sym, ap, subst, ◌∙◌}
 use Rattle.std.proofs.lemmas.Bool.{lt-ltb}
 use Rattle.std.proofs.lemmas.Int.{ints}
-use Rattle.std.proofs.lemmas.List.{length-append, length-map}
+use Rattle.std.proofs.lemmas.List.{length-append, ext_get_or}
 use Rattle.std.proofs.Math.Nat.{div-add-mod, div-lt_iff_lt-mul, mod-lt}
-use Rattle.pk_graph.specs.Kinds.{Kind, Kinds}
+use Rattle.pk_graph.specs.Kinds.{Kinds}
 use Rattle.pk_graph.specs.Graphs.{GraphOf, kinds_of}
-use Rattle.pk_value.specs.Known.{Known}
+use Rattle.pk_ctypes.specs.declared.types.IntType.TheVariants.{Int}
+use Rattle.pk_value.specs.Known.{Known, any_of}
 use Rattle.pk_value.proofs.Sound.{small_in}
 use Rattle.pk_octmat.specs.Bounds.{IsNear}
 use Rattle.pk_octmat.specs.Octagon.{Octagon, IsOctagon, cell_at}
@@ -18,9 +19,11 @@ use Rattle.pk_transfer.specs.Graphs.{layout_of}
 use Rattle.pk_cert.specs.declared.rows.Symbol.{Symbol}
 use Rattle.pk_cert.specs.declared.rows.Symbol.TheVariants.{Star, Number, Far}
 use Rattle.pk_cert.specs.Rows.{IsShort, IsSymbol, EachOf, AreEach, Line, IsLine, seen, kept, kept_line, seen_line}
-use Rattle.pk_cert_states.specs.Lines.{four_of, is_one_of, fours_of, symbols_of, line_of, shape_of}
+use Rattle.pk_cert_states.specs.Lines.{line_slots, four_of, fours_at, symbols_in, symbols_of, line_of, shape_of}
+use Rattle.pk_cert_states.specs.Parts.{slot_at, IsOrder}
 use Rattle.pk_cert_states.specs.Laws.{FactsHaveLines}
-use Rattle.pk_cert_states.proofs.Fours.{fours_length, parted_same, same_four}
+use Rattle.pk_cert_states.proofs.Ordering.{line_order, slots_counted}
+use Rattle.pk_cert_states.proofs.Fours.{fours_many, fours_length, parted_same, same_four}
 
 -- ---- numbers below 2^127
 
@@ -70,41 +73,17 @@ pub record IsSmallValue (v : Known) : Type 0 where
 abbrev AreSmallValues : List Known → Type 0
 AreSmallValues vs = (x : ℕ) → x < length vs → IsSmallValue (known_at vs x)
 
-four_small : (b : Bool) (v : Known) → IsSmallValue v → AreSmall (if b then four_of v else [])
-four_small true v h = (h.lo, (h.hi, (h.m, (h.r, tt))))
-four_small false v h = tt
+four_small : (v : Known) → IsSmallValue v → AreSmall (four_of v)
+four_small v h = (h.lo, (h.hi, (h.m, (h.r, tt))))
 
-four_numbers : (b : Bool) (v : Known) → AreNumbers (if b then four_of v else [])
-four_numbers true v = (refl, (refl, (refl, (refl, tt))))
-four_numbers false v = tt
+fours_small : (slots : List ℕ) (vs : List Known) → AreSmallValues vs → ((p : ℕ) → p < length slots → slot_at slots p < length vs) → AreSmall (fours_at slots vs)
+fours_small [] vs h there = tt
+fours_small (j ∷ js) vs h there =
+    small_joined (four_of (known_at vs j)) (fours_at js vs) (four_small (known_at vs j) (h j (there 0 (omega arith)))) (fours_small js vs h (λ p q. there (suc p) (omega (arith, q))))
 
-fours_small : (a : Bool) (ks : Kinds) (vs : List Known) → AreSmallValues vs → AreSmall (fours_of a ks vs)
-fours_small a [] vs h = tt
-fours_small a (k ∷ ks) [] h = tt
-fours_small a (k ∷ ks) (v ∷ vs) h =
-    small_joined (if is_one_of a k then four_of v else []) (fours_of a ks vs) (four_small (is_one_of a k) v (h 0 (omega arith))) (fours_small a ks vs (λ x p. h (suc x) (omega (arith, p))))
-
-fours_numbers : (a : Bool) (ks : Kinds) (vs : List Known) → AreNumbers (fours_of a ks vs)
-fours_numbers a [] vs = tt
-fours_numbers a (k ∷ ks) [] = tt
-fours_numbers a (k ∷ ks) (v ∷ vs) = numbers_joined (if is_one_of a k then four_of v else []) (fours_of a ks vs) (four_numbers (is_one_of a k) v) (fours_numbers a ks vs)
-
--- each variable is a scalar or an array
-four_once : (o : Option ℕ) (v : Known) → length (if is_none o then four_of v else []) + length (if is_some o then four_of v else []) ≡ 4
-four_once None v = refl
-four_once (Some n) v = refl
-
-fours_once : (ks : Kinds) (vs : List Known) → length vs ≡ length ks → length (fours_of false ks vs) + length (fours_of true ks vs) ≡ 4 * length ks
-fours_once [] vs e = refl
-fours_once (k ∷ ks) [] e = absurd (omega (arith, e))
-fours_once (k ∷ ks) (v ∷ vs) e =
-    omega (
-      arith,
-      length-append (if is_one_of false k then four_of v else []) (fours_of false ks vs),
-      length-append (if is_one_of true k then four_of v else []) (fours_of true ks vs),
-      four_once k.length v,
-      fours_once ks vs (omega (arith, e)),
-    )
+fours_numbers : (slots : List ℕ) (vs : List Known) → AreNumbers (fours_at slots vs)
+fours_numbers [] vs = tt
+fours_numbers (j ∷ js) vs = numbers_joined (four_of (known_at vs j)) (fours_at js vs) (refl, (refl, (refl, (refl, tt)))) (fours_numbers js vs)
 
 -- ---- the bounds of an octagon
 
@@ -142,24 +121,25 @@ values_small l f h x p = let inside = h.values.inside x p in let class = h.value
   r = class.rest_held;
 }
 
-facts_small : (l : Layout) (ks : Kinds) (f : Facts) → AreFacts l f → AreSmall (symbols_of ks f)
-facts_small l ks f h =
-    small_joined (fours_of false ks f.values) (fours_of true ks f.values ++ f.octagon.cells) (fours_small false ks f.values (values_small l f h))
-    (small_joined (fours_of true ks f.values) f.octagon.cells (fours_small true ks f.values (values_small l f h)) (cells_small f.octagon h.octagon))
+all_there : (l : Layout) (slots : List ℕ) (f : Facts) → IsOrder slots → length l.types ≡ length slots → AreFacts l f → (p : ℕ) → p < length slots → slot_at slots p < length f.values
+all_there l slots f order same h p q = omega (arith, order.below p q, h.values.size, same)
+
+facts_small : (l : Layout) (slots : List ℕ) (f : Facts) → IsOrder slots → length l.types ≡ length slots → AreFacts l f → AreSmall (symbols_in slots f)
+facts_small l slots f order same h =
+    small_joined (fours_at slots f.values) f.octagon.cells (fours_small slots f.values (values_small l f h) (all_there l slots f order same h)) (cells_small f.octagon h.octagon)
 
 -- the line has as many symbols as its shape
-pub facts_line : (l : Layout) (ks : Kinds) (f : Facts) → length l.types ≡ length ks → AreFacts l f → AreEach (4 * length ks + 2 * length l.chosen * (2 * length l.chosen)) (IsSymbol (2 * length l.chosen * (2 * length l.chosen))) (symbols_of ks f)
-facts_line l ks f same h =
-    let scalars = fours_of false ks f.values in
-    let arrays = fours_of true ks f.values in
+facts_line : (l : Layout) (slots : List ℕ) (f : Facts) → IsOrder slots → length l.types ≡ length slots → AreFacts l f
+    → AreEach (4 * length slots + 2 * length l.chosen * (2 * length l.chosen)) (IsSymbol (2 * length l.chosen * (2 * length l.chosen))) (symbols_in slots f)
+facts_line l slots f order same h =
+    let numbers = fours_at slots f.values in
     let cells = f.octagon.cells in
     let bounds : ℕ = 2 * length l.chosen * (2 * length l.chosen) in
     let many : length cells ≡ 2 * length l.chosen * (2 * length l.chosen) = h.octagon.whole.size ∙ ap (λ (n : ℕ). 2 * n * (2 * n)) h.vars in
     record {
-      size = omega (arith, length-append scalars (arrays ++ cells), length-append arrays cells, many, fours_once ks f.values (h.values.size ∙ same));
-      each = numbers_each bounds scalars (arrays ++ cells) (fours_small false ks f.values (values_small l f h)) (fours_numbers false ks f.values)
-          (numbers_each bounds arrays cells (fours_small true ks f.values (values_small l f h)) (fours_numbers true ks f.values)
-          (bounds_each bounds cells (omega (arith, many)) (cells_small f.octagon h.octagon)));
+      size = omega (arith, length-append numbers cells, many, fours_many slots f.values);
+      each = numbers_each bounds numbers cells (fours_small slots f.values (values_small l f h) (all_there l slots f order same h)) (fours_numbers slots f.values)
+          (bounds_each bounds cells (omega (arith, many)) (cells_small f.octagon h.octagon));
     }
 
 -- ---- what a reader keeps
@@ -204,56 +184,54 @@ read_is_kept (Some ys) (Some zs) e = let same : map seen ys ≡ map kept zs = cc
 
 -- ---- the facts of a line
 
-value_once : (o : Option ℕ) (v w : Known) (x y p q : List (Option ℤ)) → (if is_none o then four_of v else []) ++ x ≡ (if is_none o then four_of w else []) ++ y
-    → (if is_some o then four_of v else []) ++ p ≡ (if is_some o then four_of w else []) ++ q → (v ≡ w) × (x ≡ y) × (p ≡ q)
-value_once None v w x y p q d e = let both = parted_same (four_of v) (four_of w) x y refl d in (same_four v w.range.lo w.range.hi w.class.m w.class.r both.0, both.1, e)
-value_once (Some n) v w x y p q d e = let both = parted_same (four_of v) (four_of w) p q refl e in (same_four v w.range.lo w.range.hi w.class.m w.class.r both.0, d, both.1)
+-- values with the same numbers are the same at each place
+known_once : (slots : List ℕ) (vs ws : List Known) → fours_at slots vs ≡ fours_at slots ws → (p : ℕ) → p < length slots → known_at vs (slot_at slots p) ≡ known_at ws (slot_at slots p)
+known_once [] vs ws e p h = absurd (omega (arith, h))
+known_once (j ∷ js) vs ws e zero h =
+    let w = known_at ws j in
+    same_four (known_at vs j) w.range.lo w.range.hi w.class.m w.class.r (parted_same (four_of (known_at vs j)) (four_of w) (fours_at js vs) (fours_at js ws) refl e).0
+known_once (j ∷ js) vs ws e (suc p) h =
+    known_once js vs ws (parted_same (four_of (known_at vs j)) (four_of (known_at ws j)) (fours_at js vs) (fours_at js ws) refl e).1 p (omega (arith, h))
 
-values_once : (ks : Kinds) (vs ws : List Known) → length vs ≡ length ks → length ws ≡ length ks → fours_of false ks vs ≡ fours_of false ks ws → fours_of true ks vs ≡ fours_of true ks ws → vs ≡ ws
-values_once [] [] [] p q d e = refl
-values_once [] (v ∷ vs) ws p q d e = absurd (omega (arith, p))
-values_once [] [] (w ∷ ws) p q d e = absurd (omega (arith, q))
-values_once (k ∷ ks) [] ws p q d e = absurd (omega (arith, p))
-values_once (k ∷ ks) (v ∷ vs) [] p q d e = absurd (omega (arith, q))
-values_once (k ∷ ks) (v ∷ vs) (w ∷ ws) p q d e =
-    let one = value_once k.length v w (fours_of false ks vs) (fours_of false ks ws) (fours_of true ks vs) (fours_of true ks ws) d e in
-    ap (λ (x : Known). x ∷ vs) one.0 ∙ ap (λ (xs : List Known). w ∷ xs) (values_once ks vs ws (omega (arith, p)) (omega (arith, q)) one.1 one.2)
+values_once : (slots : List ℕ) (vs ws : List Known) → IsOrder slots → length vs ≡ length slots → length ws ≡ length slots → fours_at slots vs ≡ fours_at slots ws → vs ≡ ws
+values_once slots vs ws order p q e =
+    ext_get_or (any_of Int) vs ws (p ∙ sym q)
+    (λ j h.
+    let at = order.place j (omega (arith, h, p)) in
+    subst (λ (i : ℕ). known_at vs i ≡ known_at ws i) at.2 (known_once slots vs ws e at.0 at.1))
 
 abbrev facts_with : List Known → ℕ → List (Option ℤ) → Facts
 facts_with vs n cells = record { values = vs; octagon = record { vars = n; cells = cells } }
 
-facts_once : (l : Layout) (ks : Kinds) (f h : Facts) → length l.types ≡ length ks → AreFacts l f → AreFacts l h → symbols_of ks f ≡ symbols_of ks h → f ≡ h
-facts_once l ks f h same p q e =
-    let long = fours_length false ks f.values h.values (p.values.size ∙ sym q.values.size) in
-    let longer = fours_length true ks f.values h.values (p.values.size ∙ sym q.values.size) in
-    let one = parted_same (fours_of false ks f.values) (fours_of false ks h.values) (fours_of true ks f.values ++ f.octagon.cells) (fours_of true ks h.values ++ h.octagon.cells) long e in
-    let two = parted_same (fours_of true ks f.values) (fours_of true ks h.values) f.octagon.cells h.octagon.cells longer one.1 in
-    ap (λ (vs : List Known). facts_with vs f.octagon.vars f.octagon.cells) (values_once ks f.values h.values (p.values.size ∙ same) (q.values.size ∙ same) one.0 two.0)
+facts_once : (l : Layout) (slots : List ℕ) (f h : Facts) → IsOrder slots → length l.types ≡ length slots → AreFacts l f → AreFacts l h → symbols_in slots f ≡ symbols_in slots h → f ≡ h
+facts_once l slots f h order same p q e =
+    let parted = parted_same (fours_at slots f.values) (fours_at slots h.values) f.octagon.cells h.octagon.cells (fours_length slots f.values h.values) e in
+    ap (λ (vs : List Known). facts_with vs f.octagon.vars f.octagon.cells) (values_once slots f.values h.values order (p.values.size ∙ same) (q.values.size ∙ same) parted.0)
     ∙ ap (λ (n : ℕ). facts_with h.values n f.octagon.cells) (p.vars ∙ sym q.vars)
-    ∙ ap (λ (cells : List (Option ℤ)). facts_with h.values h.octagon.vars cells) two.1
+    ∙ ap (λ (cells : List (Option ℤ)). facts_with h.values h.octagon.vars cells) parted.1
 
 -- ---- the law
 
-pub has_line : (l : Layout) (ks : Kinds) (f : Option Facts) → length l.types ≡ length ks → AreFactsIf l f → IsLine (shape_of ks l) (line_of ks f)
+pub has_line : (l : Layout) (ks : Kinds) (f : Option Facts) → length l.types ≡ length (line_slots ks) → AreFactsIf l f → IsLine (shape_of ks l) (line_of ks f)
 has_line l ks None same h = tt
-has_line l ks (Some f) same h = facts_line l ks f same h
+has_line l ks (Some f) same h = facts_line l (line_slots ks) f (line_order ks) same h
 
-pub is_kept : (l : Layout) (ks : Kinds) (f : Option Facts) → AreFactsIf l f → seen_line (line_of ks f) ≡ kept_line (line_of ks f)
-is_kept l ks None h = refl
-is_kept l ks (Some f) h = ap (λ (s : List Symbol). Some s) (all_seen (symbols_of ks f) (facts_small l ks f h))
+pub is_kept : (l : Layout) (ks : Kinds) (f : Option Facts) → length l.types ≡ length (line_slots ks) → AreFactsIf l f → seen_line (line_of ks f) ≡ kept_line (line_of ks f)
+is_kept l ks None same h = refl
+is_kept l ks (Some f) same h = ap (λ (s : List Symbol). Some s) (all_seen (symbols_of ks f) (facts_small l (line_slots ks) f (line_order ks) same h))
 
-pub is_only : (l : Layout) (ks : Kinds) (f h : Option Facts) → length l.types ≡ length ks → AreFactsIf l f → AreFactsIf l h → line_of ks f ≡ line_of ks h → f ≡ h
+pub is_only : (l : Layout) (ks : Kinds) (f h : Option Facts) → length l.types ≡ length (line_slots ks) → AreFactsIf l f → AreFactsIf l h → line_of ks f ≡ line_of ks h → f ≡ h
 is_only l ks None None same p q e = refl
 is_only l ks None (Some h) same p q e = absurd (cc)
 is_only l ks (Some f) None same p q e = absurd (cc)
-is_only l ks (Some f) (Some h) same p q e = let told : symbols_of ks f ≡ symbols_of ks h = cc in ap (λ (x : Facts). Some x) (facts_once l ks f h same p q told)
+is_only l ks (Some f) (Some h) same p q e = let told : symbols_of ks f ≡ symbols_of ks h = cc in ap (λ (x : Facts). Some x) (facts_once l (line_slots ks) f h (line_order ks) same p q told)
 
-pub as_many : (g : GraphOf) (n : ℕ) → length (layout_of g n).types ≡ length (kinds_of g)
-as_many g n = length-map (kinds_of g) (λ (k : Kind). k.int_type)
+pub as_many : (g : GraphOf) (n : ℕ) → length (layout_of g n).types ≡ length (line_slots (kinds_of g))
+as_many g n = slots_counted (kinds_of g)
 
 pub facts_have_lines : FactsHaveLines
 facts_have_lines g n f h = record {
   line = has_line (layout_of g n) (kinds_of g) f (as_many g n) h;
-  kept = is_kept (layout_of g n) (kinds_of g) f h;
+  kept = is_kept (layout_of g n) (kinds_of g) f (as_many g n) h;
   only = λ k q e. is_only (layout_of g n) (kinds_of g) f k (as_many g n) h q e;
 }

@@ -1,16 +1,18 @@
--- Whether numbers are those of values of the variables' types.
-use Rattle.std.specs.Prelude.{◌≡◌, ◌⊎◌, ℕ, zero, suc, ◌<◌, ◌^◌, nat_lt, true, false, ℤ, pos, ◌≤ℤ◌, ◌<ℤ◌, unsigned_abs, List, [], ◌∷◌, ◌++◌, length, Option, Some, None}
+-- Whether numbers are those of values of the slots' types.
+use Rattle.std.specs.Prelude.{◌≡◌, ◌⊎◌, ℕ, zero, suc, ◌<◌, ◌^◌, nat_lt, ℤ, pos, ◌≤ℤ◌, ◌<ℤ◌, unsigned_abs, List, [], ◌∷◌, ◌++◌, map, length, Option, Some, None}
+use Rattle.std.specs.List.{flat_map}
 use Rattle.std.proofs.lemmas.Bool.Decides.{Decides-ltb}
-use Rattle.std.proofs.Common.{arith, refl, sym, ap, subst, ◌∙◌, inl, inr}
+use Rattle.std.proofs.Common.{arith, refl, sym, ap, subst, ◌∙◌, inl, inr, append_assoc}
 use Rattle.pk_ctypes.specs.declared.types.IntType.{IntType}
 use Rattle.pk_ctypes.specs.Types.{InType}
 use Rattle.pk_ctypes.proofs.Values.{cases_of_type}
 use Rattle.pk_congr.specs.Classes.{IsReduced}
-use Rattle.pk_graph.specs.Kinds.{Kinds, type_at}
 use Rattle.pk_value.specs.Known.{Known}
+use Rattle.pk_state.specs.Layouts.{Layout, type_at}
+use Rattle.pk_state.specs.Facts.{known_at}
 use Rattle.pk_state.specs.Changes.{IsValue}
-use Rattle.pk_cert_states.specs.Lines.{four_of, fours_of}
-use Rattle.pk_cert_states.specs.Parts.{known_at, AreIn}
+use Rattle.pk_cert_states.specs.Lines.{four_of}
+use Rattle.pk_cert_states.specs.Parts.{slot_at, AreIn}
 use Rattle.pk_cert_states.proofs.Fours.{parted_same, same_four}
 use Rattle.pk_cert_states.proofs.Told.{Told, told_and, told_either, told_as, told_by, told_most, told_less, told_equal}
 
@@ -77,77 +79,73 @@ told_four_of t R each zs = elim (told_four zs) [
   | inr never ↦ inr (λ h. never (record { value = h.value; rest = h.rest; told = h.told }))
 ]
 
--- ---- values of all variables
+-- ---- values one behind another
 
--- a value of each variable's type
-abbrev AreOf : Kinds → List Known → Type 0
+-- values of these types, and behind their numbers something of R
+abbrev Follow : List IntType → (List (Option ℤ) → Type 0) → List (Option ℤ) → Type 0
+Follow [] R zs = R zs
+Follow (t ∷ ts) R zs = IsFourOf t (Follow ts R) zs
+
+told_follow : (ts : List IntType) (R : List (Option ℤ) → Type 0) → ((zs : List (Option ℤ)) → Told (R zs)) → (zs : List (Option ℤ)) → Told (Follow ts R zs)
+told_follow [] R each zs = each zs
+told_follow (t ∷ ts) R each zs = told_four_of t (Follow ts R) (told_follow ts R each) zs
+
+-- a value of each type
+abbrev pub AreOf : List IntType → List Known → Type 0
 AreOf [] [] = Unit {0}
 AreOf [] (v ∷ vs) = ⊥
-AreOf (k ∷ ks) [] = ⊥
-AreOf (k ∷ ks) (v ∷ vs) = IsValue k.int_type v × AreOf ks vs
+AreOf (t ∷ ts) [] = ⊥
+AreOf (t ∷ ts) (v ∷ vs) = IsValue t v × AreOf ts vs
 
-are_in : (ks : Kinds) (vs : List Known) → AreOf ks vs → AreIn ks vs
-are_in ks vs h = record { size = size ks vs h; each = each ks vs h }
-  where
-    size : (ks : Kinds) (vs : List Known) → AreOf ks vs → length vs ≡ length ks
-    size [] [] h = refl
-    size [] (v ∷ vs) h = absurd h
-    size (k ∷ ks) [] h = absurd h
-    size (k ∷ ks) (v ∷ vs) h = omega (arith, size ks vs h.1)
-
-    each : (ks : Kinds) (vs : List Known) → AreOf ks vs → (x : ℕ) → x < length ks → IsValue (type_at ks x) (known_at vs x)
-    each [] vs h x p = absurd (omega (arith, p))
-    each (k ∷ ks) [] h x p = absurd h
-    each (k ∷ ks) (v ∷ vs) h zero p = h.0
-    each (k ∷ ks) (v ∷ vs) h (suc x) p = each ks vs h.1 x (omega (arith, p))
-
-are_of : (ks : Kinds) (vs : List Known) → AreIn ks vs → AreOf ks vs
-are_of [] [] h = tt
-are_of [] (v ∷ vs) h = omega (arith, h.size)
-are_of (k ∷ ks) [] h = omega (arith, h.size)
-are_of (k ∷ ks) (v ∷ vs) h = (h.each 0 (omega arith), are_of ks vs record { size = omega (arith, h.size); each = λ x p. h.each (suc x) (omega (arith, p)) })
-
--- these are all numbers of the scalars' values, and of the arrays'
-pub record HaveValues (ks : Kinds) (scalars arrays : List (Option ℤ)) : Type 0 where
+-- the numbers of such values, and behind them something of R
+pub record HaveValues (ts : List IntType) (R : List (Option ℤ) → Type 0) (zs : List (Option ℤ)) : Type 0 where
   pub values : List Known
-  pub are : AreOf ks values
-  pub first : scalars ≡ fours_of false ks values
-  pub second : arrays ≡ fours_of true ks values
+  pub rest : List (Option ℤ)
+  pub are : AreOf ts values
+  pub told : zs ≡ flat_map four_of values ++ rest
+  pub more : R rest
 
-none_left : (scalars arrays : List (Option ℤ)) → Told (HaveValues [] scalars arrays)
-none_left [] [] = inl (record { values = []; are = tt; first = refl; second = refl })
-none_left [] (z ∷ arrays) = inr (λ h. let f = h.second in cc)
-none_left (z ∷ scalars) arrays = inr (λ h. let f = h.first in cc)
+have : (ts : List IntType) (R : List (Option ℤ) → Type 0) (zs : List (Option ℤ)) → Follow ts R zs → HaveValues ts R zs
+have [] R zs h = record { values = []; rest = zs; are = tt; told = refl; more = h }
+have (t ∷ ts) R zs h =
+    let behind = have ts R h.rest h.more in
+    record {
+      values = h.value ∷ behind.values;
+      rest = behind.rest;
+      are = (h.is, behind.are);
+      told = h.told ∙ ap (λ r. four_of h.value ++ r) behind.told ∙ sym (append_assoc (four_of h.value) (flat_map four_of behind.values) behind.rest);
+      more = behind.more;
+    }
 
-one_more : (t : IntType) (o : Option ℕ) (ks : Kinds) → ((a b : List (Option ℤ)) → Told (HaveValues ks a b)) → (a b : List (Option ℤ))
-    → Told (HaveValues (record { int_type = t; length = o } ∷ ks) a b)
-one_more t None ks each a b =
-    told_as (IsFourOf t (λ (r : List (Option ℤ)). HaveValues ks r b) a) (HaveValues (record { int_type = t; length = None } ∷ ks) a b)
-    (λ f. record { values = f.value ∷ f.more.values; are = (f.is, f.more.are); first = f.told ∙ ap (λ (r : List (Option ℤ)). four_of f.value ++ r) f.more.first; second = f.more.second })
-    (λ h. back h.values h.are h.first h.second)
-    (told_four_of t (λ (r : List (Option ℤ)). HaveValues ks r b) (λ r. each r b) a)
-  where
-    back : (vs : List Known) → AreOf (record { int_type = t; length = None } ∷ ks) vs → a ≡ fours_of false (record { int_type = t; length = None } ∷ ks) vs → b ≡ fours_of true (record { int_type = t; length = None } ∷ ks) vs
-        → IsFourOf t (λ (r : List (Option ℤ)). HaveValues ks r b) a
-    back [] are e f = absurd are
-    back (v ∷ vs) are e f = record { value = v; rest = fours_of false ks vs; is = are.0; told = e; more = record { values = vs; are = are.1; first = refl; second = f } }
-one_more t (Some n) ks each a b =
-    told_as (IsFourOf t (λ (r : List (Option ℤ)). HaveValues ks a r) b) (HaveValues (record { int_type = t; length = Some n } ∷ ks) a b)
-    (λ f. record { values = f.value ∷ f.more.values; are = (f.is, f.more.are); first = f.more.first; second = f.told ∙ ap (λ (r : List (Option ℤ)). four_of f.value ++ r) f.more.second })
-    (λ h. back h.values h.are h.first h.second)
-    (told_four_of t (λ (r : List (Option ℤ)). HaveValues ks a r) (λ r. each a r) b)
-  where
-    back : (vs : List Known) → AreOf (record { int_type = t; length = Some n } ∷ ks) vs → a ≡ fours_of false (record { int_type = t; length = Some n } ∷ ks) vs → b ≡ fours_of true (record { int_type = t; length = Some n } ∷ ks) vs
-        → IsFourOf t (λ (r : List (Option ℤ)). HaveValues ks a r) b
-    back [] are e f = absurd are
-    back (v ∷ vs) are e f = record { value = v; rest = fours_of true ks vs; is = are.0; told = f; more = record { values = vs; are = are.1; first = e; second = refl } }
+follow : (ts : List IntType) (R : List (Option ℤ) → Type 0) (vs : List Known) (zs rest : List (Option ℤ)) → AreOf ts vs → zs ≡ flat_map four_of vs ++ rest → R rest → Follow ts R zs
+follow [] R [] zs rest are e more = subst R (sym e) more
+follow [] R (v ∷ vs) zs rest are e more = absurd are
+follow (t ∷ ts) R [] zs rest are e more = absurd are
+follow (t ∷ ts) R (v ∷ vs) zs rest are e more = record {
+  value = v;
+  rest = flat_map four_of vs ++ rest;
+  is = are.0;
+  told = e ∙ append_assoc (four_of v) (flat_map four_of vs) rest;
+  more = follow ts R vs (flat_map four_of vs ++ rest) rest are.1 refl more;
+}
 
-pub told_values : (ks : Kinds) (a b : List (Option ℤ)) → Told (HaveValues ks a b)
-told_values [] a b = none_left a b
-told_values (k ∷ ks) a b = one_more k.int_type k.length ks (told_values ks) a b
+pub told_values : (ts : List IntType) (R : List (Option ℤ) → Type 0) → ((zs : List (Option ℤ)) → Told (R zs)) → (zs : List (Option ℤ)) → Told (HaveValues ts R zs)
+told_values ts R each zs = told_as (Follow ts R zs) (HaveValues ts R zs) (have ts R zs) (λ h. follow ts R h.values zs h.rest h.are h.told h.more) (told_follow ts R each zs)
 
-pub values_in : (ks : Kinds) (a b : List (Option ℤ)) (h : HaveValues ks a b) → AreIn ks h.values
-values_in ks a b h = are_in ks h.values h.are
+-- ---- values in the order of a line
 
-pub values_of : (ks : Kinds) (vs : List Known) → AreIn ks vs → HaveValues ks (fours_of false ks vs) (fours_of true ks vs)
-values_of ks vs h = record { values = vs; are = are_of ks vs h; first = refl; second = refl }
+pub many_of : (ts : List IntType) (vs : List Known) → AreOf ts vs → length vs ≡ length ts
+many_of [] [] h = refl
+many_of [] (v ∷ vs) h = absurd h
+many_of (t ∷ ts) [] h = absurd h
+many_of (t ∷ ts) (v ∷ vs) h = omega (arith, many_of ts vs h.1)
+
+pub value_of : (l : Layout) (slots : List ℕ) (vs : List Known) → AreOf (map (type_at l) slots) vs → (p : ℕ) → p < length slots → IsValue (type_at l (slot_at slots p)) (known_at vs p)
+value_of l [] vs h p q = absurd (omega (arith, q))
+value_of l (j ∷ js) [] h p q = absurd h
+value_of l (j ∷ js) (v ∷ vs) h zero q = h.0
+value_of l (j ∷ js) (v ∷ vs) h (suc p) q = value_of l js vs h.1 p (omega (arith, q))
+
+pub values_of : (l : Layout) (slots : List ℕ) (vs : List Known) → AreIn l vs → ((p : ℕ) → p < length slots → slot_at slots p < length l.types) → AreOf (map (type_at l) slots) (map (known_at vs) slots)
+values_of l [] vs h there = tt
+values_of l (j ∷ js) vs h there = (h.each j (there 0 (omega arith)), values_of l js vs h (λ p q. there (suc p) (omega (arith, q))))

@@ -5,35 +5,34 @@ use Rattle.std.proofs.Math.Seq.{take-length, take-suc, take-suc-set, get_or-appe
 use Rattle.std.proofs.lemmas.Bool.{cases_eq}
 use Rattle.std.proofs.lemmas.List.{length-append, length-set, length-map, get_or_append_left}
 use Rattle.pk_ctypes.specs.declared.types.IntType.TheVariants.{Int}
-use Rattle.pk_graph.specs.Kinds.{Kinds, type_at}
 use Rattle.pk_octmat.specs.Octagon.{Octagon}
 use Rattle.pk_value.specs.Known.{Known, any_of}
-use Rattle.pk_state.specs.Layouts.{Layout}
-use Rattle.pk_state.specs.Facts.{AreFactsIf, Facts, Stated, top_facts}
+use Rattle.pk_state.specs.Layouts.{Layout, type_at}
+use Rattle.pk_state.specs.Facts.{AreFactsIf, Facts, Stated, top_facts, known_at}
 use Rattle.pk_state.specs.Changes.{IsValue, with_known, with_bounds}
-use Rattle.pk_cert_states.specs.Parts.{known_at, AreIn, HasFacts}
+use Rattle.pk_cert_states.specs.Parts.{AreIn, HasFacts}
 
 -- ---- pushed
 
-pub record AreInTo (ks : Kinds) (vs : List Known) (n : ℕ) : Type 0 where
+pub record AreInTo (l : Layout) (vs : List Known) (n : ℕ) : Type 0 where
   pub size : length vs ≡ n
-  pub each : (x : ℕ) → x < n → IsValue (type_at ks x) (known_at vs x)
+  pub each : (j : ℕ) → j < n → IsValue (type_at l j) (known_at vs j)
 
-pub pushed : (ks : Kinds) (vs : List Known) (n : ℕ) (v : Known) → AreInTo ks vs n → IsValue (type_at ks n) v → AreInTo ks (vs ++ v ∷ []) (n + 1)
-pushed ks vs n v h is = record {
+pub pushed : (l : Layout) (vs : List Known) (n : ℕ) (v : Known) → AreInTo l vs n → IsValue (type_at l n) v → AreInTo l (vs ++ v ∷ []) (n + 1)
+pushed l vs n v h is = record {
   size = omega (arith, length-append vs (v ∷ []), h.size);
-  each = λ x p. elim (cases_eq x n) [
+  each = λ j p. elim (cases_eq j n) [
     | inl s ↦
-        let last : known_at (vs ++ v ∷ []) x ≡ v = ap (λ k. slice_index_or (vs ++ v ∷ []) k (any_of Int)) (s ∙ sym h.size) ∙ get_or-append_seam vs v [] (any_of Int) in
-        subst (λ (k : Known). IsValue (type_at ks x) k) (sym last) (subst (λ (k : ℕ). IsValue (type_at ks k) v) (sym s) is)
+        let last : known_at (vs ++ v ∷ []) j ≡ v = ap (λ k. slice_index_or (vs ++ v ∷ []) k (any_of Int)) (s ∙ sym h.size) ∙ get_or-append_seam vs v [] (any_of Int) in
+        subst (λ (k : Known). IsValue (type_at l j) k) (sym last) (subst (λ (k : ℕ). IsValue (type_at l k) v) (sym s) is)
     | inr s ↦
-        let q : x < n = omega (arith, p, s) in
-        subst (λ (k : Known). IsValue (type_at ks x) k) (sym (get_or_append_left vs (v ∷ []) (any_of Int) x (omega (arith, q, h.size)))) (h.each x q)
+        let q : j < n = omega (arith, p, s) in
+        subst (λ (k : Known). IsValue (type_at l j) k) (sym (get_or_append_left vs (v ∷ []) (any_of Int) j (omega (arith, q, h.size)))) (h.each j q)
   ];
 }
 
-pub pushed_all : (ks : Kinds) (vs : List Known) (n : ℕ) → AreInTo ks vs n → n ≡ length ks → AreIn ks vs
-pushed_all ks vs n h e = record { size = h.size ∙ e; each = λ x p. h.each x (omega (arith, p, e)) }
+pub pushed_all : (l : Layout) (vs : List Known) (n : ℕ) → AreInTo l vs n → n ≡ length l.types → AreIn l vs
+pushed_all l vs n h e = record { size = h.size ∙ e; each = λ j p. h.each j (omega (arith, p, e)) }
 
 -- ---- written
 

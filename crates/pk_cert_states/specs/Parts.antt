@@ -1,24 +1,41 @@
 -- The parts of a line, as they are read.
-use Rattle.std.specs.Prelude.{◌≡◌, ◌⊎◌, ℕ, ◌+◌, ◌*◌, ◌<◌, ◌^◌, Bool, true, false, not, ℤ, pos, List, ◌++◌, map, length, take, slice_index_or, Option, Some, None}
+use Rattle.std.specs.Prelude.{◌≡◌, ◌⊎◌, ℕ, ◌+◌, ◌*◌, ◌<◌, ◌^◌, ℤ, pos, List, ◌++◌, map, length, take, slice_index_or, Option, Some, None}
 use Rattle.pk_ctypes.specs.declared.types.IntType.{IntType}
-use Rattle.pk_ctypes.specs.declared.types.IntType.TheVariants.{Int}
 use Rattle.pk_graph.specs.declared.graphs.Variable.{Variable}
 use Rattle.pk_graph.specs.Graphs.{variable_view}
-use Rattle.pk_graph.specs.Kinds.{Kinds, type_at}
+use Rattle.pk_graph.specs.Kinds.{Kinds}
 use Rattle.pk_octmat.specs.Bounds.{IsNear}
 use Rattle.pk_octmat.specs.Octagon.{Octagon, IsOctagon, bar, entry}
-use Rattle.pk_value.specs.Known.{Known, any_of}
-use Rattle.pk_state.specs.Layouts.{Layout}
-use Rattle.pk_state.specs.Facts.{Facts, Stated}
+use Rattle.pk_value.specs.Known.{Known}
+use Rattle.pk_state.specs.Layouts.{Layout, type_at}
+use Rattle.pk_state.specs.Facts.{Facts, Stated, known_at}
 use Rattle.pk_state.specs.Changes.{IsValue}
 use Rattle.pk_cert.specs.declared.rows.Symbol.{Symbol}
 use Rattle.pk_cert.specs.declared.rows.Symbol.TheVariants.{Star, Number, Far}
 use Rattle.pk_cert.specs.Rows.{kept}
-use Rattle.pk_cert_states.specs.Lines.{four_of, fours_of, symbols_of}
+use Rattle.pk_cert_states.specs.Lines.{four_of, fours_at, symbols_in}
 
 -- the kinds of these variables
 abbrev pub kinds_in : List Variable → Kinds
 kinds_in = map (λ (v : Variable). (variable_view v).kind)
+
+-- ---- the order of a line
+
+abbrev pub slot_at : List ℕ → ℕ → ℕ
+slot_at slots p = slice_index_or slots p 0
+
+-- each number below their count stands at one place
+pub record IsOrder (slots : List ℕ) : Type 0 where
+  pub below : (p : ℕ) → p < length slots → slot_at slots p < length slots
+  pub place : (j : ℕ) → j < length slots → (p : ℕ) × (p < length slots) × (slot_at slots p ≡ j)
+  pub once : (p q : ℕ) → p < length slots → q < length slots → slot_at slots p ≡ slot_at slots q → p ≡ q
+
+-- the place of each
+pub record ArePlaces (slots places : List ℕ) : Type 0 where
+  pub size : length places ≡ length slots
+  pub each : (p : ℕ) → p < length slots → slot_at places (slot_at slots p) ≡ p
+
+-- ---- values
 
 abbrev pub number_of : Symbol → Option ℤ
 number_of Star = None
@@ -30,33 +47,28 @@ pub record IsFirst (t : IntType) (symbols : List Symbol) (k : Known) : Type 0 wh
   pub value : IsValue t k
   pub told : (rest : List Symbol) × (symbols ≡ map kept (four_of k) ++ rest)
 
--- what is known of a variable, if it is one of these
-abbrev pub known_at : List Known → ℕ → Known
-known_at vs x = slice_index_or vs x (any_of Int)
+-- a value of each slot's type
+pub record AreIn (l : Layout) (vs : List Known) : Type 0 where
+  pub size : length vs ≡ length l.types
+  pub each : (j : ℕ) → j < length l.types → IsValue (type_at l j) (known_at vs j)
 
--- a value of each variable's type
-pub record AreIn (ks : Kinds) (vs : List Known) : Type 0 where
-  pub size : length vs ≡ length ks
-  pub each : (x : ℕ) → x < length ks → IsValue (type_at ks x) (known_at vs x)
+-- values of the slots, of which in this order these symbols are the first numbers
+pub record AreFirst (l : Layout) (slots : List ℕ) (symbols : List Symbol) (vs : List Known) : Type 0 where
+  pub values : AreIn l vs
+  pub told : (rest : List Symbol) × (symbols ≡ map kept (fours_at slots vs) ++ rest)
 
--- values of the types, of which these symbols are the first numbers: those of the arrays, or of the scalars
-pub record AreFirst (ks : Kinds) (arrays : Bool) (symbols : List Symbol) (vs : List Known) : Type 0 where
-  pub values : AreIn ks vs
-  pub told : (rest : List Symbol) × (symbols ≡ map kept (fours_of arrays ks vs) ++ rest)
+-- The first symbols are the numbers of the values of the first p slots, and these are left.
+pub record AreFilledTo (l : Layout) (slots : List ℕ) (symbols rest : List Symbol) (vs : List Known)
+    (p : ℕ) : Type 0 where
+  pub values : AreIn l vs
+  pub told : symbols ≡ map kept (fours_at (take p slots) vs) ++ rest
 
--- The values of the first x variables are those of which the first symbols are the numbers, and these are left.
-pub record AreFilledTo (ks : Kinds) (arrays : Bool) (symbols rest : List Symbol) (before after : List Known)
-    (x : ℕ) : Type 0 where
-  pub values : AreIn ks after
-  pub told : symbols ≡ map kept (fours_of arrays (take x ks) (take x after)) ++ rest
-  pub others : fours_of (not arrays) ks after ≡ fours_of (not arrays) ks before
+-- the first symbols are the numbers of all values, and these are left
+pub record AreFilled (l : Layout) (slots : List ℕ) (symbols rest : List Symbol) (vs : List Known) : Type 0 where
+  pub values : AreIn l vs
+  pub told : symbols ≡ map kept (fours_at slots vs) ++ rest
 
--- the arrays, or the scalars, have got the values of which the symbols are the first numbers, and the others are as before
-pub record AreFilled (ks : Kinds) (arrays : Bool) (symbols rest : List Symbol)
-    (old new : List Known) : Type 0 where
-  pub values : AreIn ks new
-  pub told : symbols ≡ map kept (fours_of arrays ks new) ++ rest
-  pub others : fours_of (not arrays) ks new ≡ fours_of (not arrays) ks old
+-- ---- bounds
 
 -- the bound in a row and a column, in rows of d
 abbrev pub bound_of : List Symbol → ℕ → ℕ → ℕ → Option ℤ
@@ -84,15 +96,7 @@ pub record AreBoundsOf (n : ℕ) (symbols : List Symbol) (m : Octagon) : Type 0 
   pub octagon : IsOctagon m
   pub told : symbols ≡ map kept m.cells
 
--- values of the types, of which these symbols are the first numbers, those of the scalars before those of the arrays
-pub record AreAllFirst (ks : Kinds) (symbols : List Symbol) (vs : List Known) : Type 0 where
-  pub values : AreIn ks vs
-  pub told : (rest : List Symbol)
-      × (symbols ≡ map kept (fours_of false ks vs) ++ (map kept (fours_of true ks vs) ++ rest))
-
-pub record AreAllRead (ks : Kinds) (symbols rest : List Symbol) (vs : List Known) : Type 0 where
-  pub values : AreIn ks vs
-  pub told : symbols ≡ map kept (fours_of false ks vs) ++ (map kept (fours_of true ks vs) ++ rest)
+-- ---- states
 
 -- the state with these values and the octagon of which the symbols are the bounds
 pub record IsBounded (l : Layout) (vs : List Known) (symbols : List Symbol) (s : Stated) : Type 0 where
@@ -100,13 +104,13 @@ pub record IsBounded (l : Layout) (vs : List Known) (symbols : List Symbol) (s :
   pub bounds : AreBoundsOf (length l.chosen) symbols octagon
   pub state : s ≡ record { layout = l; facts = Some (record { values = vs; octagon = octagon }) }
 
--- the state over the layout that has facts with these symbols
-pub record IsRead (ks : Kinds) (l : Layout) (symbols : List Symbol) (s : Stated) : Type 0 where
+-- the state over the layout that has facts with these symbols in this order
+pub record IsRead (slots : List ℕ) (l : Layout) (symbols : List Symbol) (s : Stated) : Type 0 where
   pub facts : Facts
   pub state : s ≡ record { layout = l; facts = Some facts }
-  pub told : symbols ≡ map kept (symbols_of ks facts)
+  pub told : symbols ≡ map kept (symbols_in slots facts)
 
--- some run comes there, and something is known of each variable
+-- some run comes there, and something is known of each slot
 pub record HasFacts (l : Layout) (s : Stated) : Type 0 where
   pub layout : s.layout ≡ l
   pub facts : Facts

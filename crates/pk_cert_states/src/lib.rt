@@ -4,11 +4,12 @@
 mod bounds;
 mod laws;
 mod numbers;
+mod orders;
 mod states;
 mod values;
 
 pub use bounds::octagon;
 pub use laws::{every_line_is_settled, facts_have_lines};
 pub use numbers::first_value;
+pub use orders::Order;
 pub use states::state_of;
-pub use values::is_one_of;

@@ -1,79 +1,26 @@
 // The state of a line.
 
-ghost use Rattle.std.specs.Prelude.{◌≡◌, ◌<◌, ℕ, IfOk, MatchOption, Some, List, Option, length, map};
-ghost use Rattle.pk_value.specs.Known.{Known};
+ghost use Rattle.std.specs.Prelude.{◌≡◌, ◌<◌, ℕ, IfOk, MatchOption, Some, Option, length, map};
 ghost use Rattle.pk_octmat.specs.Octagon.{Octagon};
 ghost use Rattle.pk_graph.specs.Graphs.{kinds_of};
-ghost use Rattle.pk_graph.specs.Kinds as kinds;
 ghost use Rattle.pk_graph.specs.Shown.{graph_view};
 ghost use Rattle.pk_state.specs.Layouts.{type_at};
 ghost use Rattle.pk_state.specs.Changes.{IsValue};
-ghost use Rattle.pk_state.specs.Facts.{Facts, AreFacts, AreFactsIf};
+ghost use Rattle.pk_state.specs.Facts.{Facts, AreFacts, AreFactsIf, known_at};
 ghost use Rattle.pk_transfer.specs.Graphs.{layout_of};
 ghost use Rattle.pk_cert.specs.Rows.{kept, kept_line, row_view};
-ghost use Rattle.pk_cert_states.specs.Lines.{symbols_of, line_of};
-ghost use Rattle.pk_cert_states.specs.Parts.{kinds_in, AreIn, AreBoundsOf, IsBounded, HasFacts, IsRead, AreAllFirst, AreAllRead, known_at};
+ghost use Rattle.pk_cert_states.specs.Lines.{line_slots, symbols_in, line_in, line_of};
+ghost use Rattle.pk_cert_states.specs.Parts.{AreBoundsOf, IsBounded, HasFacts, IsRead};
 
 use crate::bounds::octagon;
-use crate::values::fill;
+use crate::orders::Order;
+use crate::values::{any_values, fill};
 use pk_cert::{Row, Symbol};
-use pk_congr::reduced_law;
-use pk_ctypes::IntType;
-use pk_graph::{Graph, Variable};
-use pk_interval::{ordered_law, types_law};
+use pk_graph::Graph;
 use pk_octmat::Matrix;
 use pk_state::{Frame, State};
 use pk_value::Value;
 use std::alloc::{AllocError, Global};
-
-// Any number of a type.
-fn any_in(t: IntType) -> Value
-    ensures { IsValue t result }
-{
-    let value = Value::any(t);
-    types_law();
-    ordered_law(&value.interval);
-    reduced_law(&value.congr);
-    value
-}
-
-// Any number of a variable's type.
-fn any_of(variables: &[Variable], x: usize) -> Value
-    requires { x < length variables.now }
-    ensures { IsValue (kinds.type_at (kinds_in variables.now) x) result }
-{
-    any_in(variables[x].int_type)
-}
-
-// Any number of each variable's type.
-fn any_values(alloc: Global, variables: &[Variable]) -> Result<Vec<Value>, AllocError>
-    ensures { IfOk result (λ vs. AreIn (kinds_in variables.now) vs.items) }
-{
-    let mut values = Vec::with_capacity(alloc, variables.len())?;
-    for x in 0..variables.len() {
-        values.push(any_of(variables, x))?;
-    }
-    Ok(values)
-}
-
-// Gives the variables the values of which the first symbols are the numbers, and answers the symbols behind them, if they are such.
-fn read_values<'s>(
-    values: &mut Vec<Value>,
-    variables: &[Variable],
-    symbols: &'s [Symbol],
-) -> Option<&'s [Symbol]>
-    requires { AreIn (kinds_in variables.now) values.old.items }
-    ensures { MatchOption result ((vs : List Known) → AreAllFirst (kinds_in variables.now) symbols.now vs → ⊥)
-        (λ rest. AreAllRead (kinds_in variables.now) symbols.now rest.now values.new.items) }
-{
-    match fill(values, variables, symbols, false) {
-        None => None,
-        Some(rest) => match fill(values, variables, rest, true) {
-            None => None,
-            Some(behind) => Some(behind),
-        },
-    }
-}
 
 // A state to begin with: another one, or that of which nothing is known.
 fn begun<'f>(alloc: Global, frame: &'f Frame, beside: &State<'f>) -> Result<State<'f>, AllocError>
@@ -143,21 +90,19 @@ fn bounded<'f>(
 // The state of the symbols of a line.
 fn of_symbols<'f>(
     alloc: Global,
-    graph: &Graph,
     frame: &'f Frame,
+    order: &Order,
     symbols: &[Symbol],
     beside: &State<'f>,
 ) -> Result<Option<State<'f>>, AllocError>
     requires beside { beside.now.layout ≡ frame.now }
-    requires frame { (oct : ℕ) × (frame.now ≡ layout_of (graph_view graph.now) oct) }
+    requires many { length frame.now.types ≡ length order.now }
     ensures { IfOk result (λ o. MatchOption o
-        ((f : Facts) → AreFacts frame.now f →
-        symbols.now ≡ map kept (symbols_of (kinds_of (graph_view graph.now)) f) → ⊥)
-        (IsRead (kinds_of (graph_view graph.now)) frame.now symbols.now)) }
+        ((f : Facts) → AreFacts frame.now f → symbols.now ≡ map kept (symbols_in order.now f) → ⊥)
+        (IsRead order.now frame.now symbols.now)) }
 {
-    let variables = graph.variables();
-    let mut values = any_values(alloc, variables)?;
-    match read_values(&mut values, variables, symbols) {
+    let mut values = any_values(alloc, frame)?;
+    match fill(&mut values, frame, order, symbols) {
         None => Ok(None),
         Some(rest) => {
             let found = bounded(alloc, frame, &values, rest, beside)?;
@@ -169,24 +114,45 @@ fn of_symbols<'f>(
     }
 }
 
+// The state of a line that tells the slots in this order.
+fn in_order<'f>(
+    alloc: Global,
+    frame: &'f Frame,
+    order: &Order,
+    row: &Row,
+    beside: &State<'f>,
+) -> Result<Option<State<'f>>, AllocError>
+    requires beside { beside.now.layout ≡ frame.now }
+    requires many { length frame.now.types ≡ length order.now }
+    ensures { IfOk result (λ o. MatchOption o
+        ((f : Option Facts) → AreFactsIf frame.now f →
+        row_view row.now ≡ kept_line (line_in order.now f) → ⊥)
+        (λ s. (s.layout ≡ frame.now) × (row_view row.now ≡ kept_line (line_in order.now s.facts)))) }
+{
+    match row {
+        Row::Bottom => Ok(Some(State::bottom(frame))),
+        Row::Symbols(symbols) => of_symbols(alloc, frame, order, symbols, beside),
+    }
+}
+
 /// The state of which a line tells, over the frame of the graph, which shares with another one what both have; none where it tells of none: a range isn't in its type or has no number, a class isn't
 /// reduced, or the bounds are no octagon's.
 pub fn state_of<'f>(
     alloc: Global,
     graph: &Graph,
     frame: &'f Frame,
+    order: &Order,
     row: &Row,
     beside: &State<'f>,
 ) -> Result<Option<State<'f>>, AllocError>
     requires beside { beside.now.layout ≡ frame.now }
     requires frame { (oct : ℕ) × (frame.now ≡ layout_of (graph_view graph.now) oct) }
+    requires order { order.now ≡ line_slots (kinds_of (graph_view graph.now)) }
     ensures { let ks = kinds_of (graph_view graph.now) in IfOk result (λ o. MatchOption o
         ((f : Option Facts) → AreFactsIf frame.now f →
         row_view row.now ≡ kept_line (line_of ks f) → ⊥)
         (λ s. (s.layout ≡ frame.now) × (row_view row.now ≡ kept_line (line_of ks s.facts)))) }
 {
-    match row {
-        Row::Bottom => Ok(Some(State::bottom(frame))),
-        Row::Symbols(symbols) => of_symbols(alloc, graph, frame, symbols, beside),
-    }
+    let _ = graph;
+    in_order(alloc, frame, order, row, beside)
 }

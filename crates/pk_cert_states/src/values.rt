@@ -1,71 +1,90 @@
-// The numbers of the scalars, or of the arrays.
+// The values of a line.
 
-ghost use Rattle.std.specs.Prelude.{◌≡◌, ◌<◌, ◌+◌, MatchOption, List, length};
+ghost use Rattle.std.specs.Prelude.{◌≡◌, ◌<◌, ◌+◌, IfOk, MatchOption, List, length};
 ghost use Rattle.pk_cert.specs.declared.rows.Symbol.{Symbol};
 ghost use Rattle.pk_value.specs.Known.{Known};
-ghost use Rattle.pk_graph.specs.Graphs.{variable_view};
-ghost use Rattle.pk_cert_states.specs.Lines.{is_one_of};
-ghost use Rattle.pk_cert_states.specs.Parts.{kinds_in, AreIn, AreFirst, AreFilledTo, AreFilled};
+ghost use Rattle.pk_state.specs.Changes.{IsValue};
+ghost use Rattle.pk_cert_states.specs.Parts.{AreIn, AreFirst, AreFilledTo, AreFilled};
 
 use crate::numbers::first_value;
+use crate::orders::Order;
 use pk_cert::Symbol;
-use pk_graph::Variable;
+use pk_congr::reduced_law;
+use pk_ctypes::IntType;
+use pk_interval::{ordered_law, types_law};
+use pk_state::Frame;
 use pk_value::Value;
+use std::alloc::{AllocError, Global};
 
-/// Whether a variable is one of the arrays, or of the scalars.
-#[tactic(auto, unfolding(pk_graph::specs::Graphs::variable_view))]
-pub fn is_one_of(arrays: bool, variable: &Variable) -> bool
-    ensures { result ≡ is_one_of arrays (variable_view variable.now).kind }
+// Any number of a type.
+fn any_in(t: IntType) -> Value
+    ensures { IsValue t result }
 {
-    match variable.length {
-        None => !arrays,
-        Some(_) => arrays,
-    }
+    let value = Value::any(t);
+    types_law();
+    ordered_law(&value.interval);
+    reduced_law(&value.congr);
+    value
 }
 
-// Gives a variable, if it is one of these, the value of which the first symbols are the numbers, and answers the symbols behind them, if they are such.
+/// Any number of each slot's type.
+pub(crate) fn any_values(alloc: Global, frame: &Frame) -> Result<Vec<Value>, AllocError>
+    ensures { IfOk result (λ vs. AreIn frame.now vs.items) }
+{
+    let mut values = Vec::with_capacity(alloc, frame.len())?;
+    for j in 0..frame.len() {
+        values.push(any_in(frame.int_type(j)))?;
+    }
+    Ok(values)
+}
+
+// Gives the slot at a place the value of which the first symbols are the numbers, and answers the symbols behind them,
+// if they are such.
 fn fill_one<'s>(
     values: &mut Vec<Value>,
-    variables: &[Variable],
+    frame: &Frame,
+    order: &Order,
     symbols: &'s [Symbol],
-    arrays: bool,
-    x: usize,
+    p: usize,
 ) -> Option<&'s [Symbol]>
-    requires place { x < length variables.now }
-    requires values { AreIn (kinds_in variables.now) values.old.items }
-    ensures { let ks = kinds_in variables.now in MatchOption result
-        ((all : List Symbol) (before vs : List Known) →
-        AreFilledTo ks arrays all symbols.now before values.old.items x → AreFirst ks arrays all vs → ⊥)
-        (λ rest. (all : List Symbol) (before : List Known) →
-        AreFilledTo ks arrays all symbols.now before values.old.items x →
-        AreFilledTo ks arrays all rest.now before values.new.items (x + 1)) }
+    requires place { p < length order.now }
+    requires many { length frame.now.types ≡ length order.now }
+    requires values { AreIn frame.now values.old.items }
+    ensures { MatchOption result
+        ((all : List Symbol) (vs : List Known) →
+        AreFilledTo frame.now order.now all symbols.now values.old.items p →
+        AreFirst frame.now order.now all vs → ⊥)
+        (λ rest. (all : List Symbol) →
+        AreFilledTo frame.now order.now all symbols.now values.old.items p →
+        AreFilledTo frame.now order.now all rest.now values.new.items (p + 1)) }
 {
-    if !is_one_of(arrays, &variables[x]) {
-        return Some(symbols);
-    }
-    match first_value(symbols, variables[x].int_type) {
+    order.is_order();
+    let slot = order.slot(p);
+    match first_value(symbols, frame.int_type(slot)) {
         None => None,
         Some(found) => {
-            values[x] = found.0;
+            values[slot] = found.0;
             Some(found.1)
         }
     }
 }
 
-/// Gives the arrays, or the scalars, the values of which the first symbols are the numbers, and answers the symbols behind them, if they are such.
+/// Gives the slots the values of which the first symbols are the numbers, and answers the symbols behind them, if they
+/// are such.
 pub(crate) fn fill<'s>(
     values: &mut Vec<Value>,
-    variables: &[Variable],
+    frame: &Frame,
+    order: &Order,
     symbols: &'s [Symbol],
-    arrays: bool,
 ) -> Option<&'s [Symbol]>
-    requires { AreIn (kinds_in variables.now) values.old.items }
-    ensures { MatchOption result ((vs : List Known) → AreFirst (kinds_in variables.now) arrays symbols.now vs → ⊥)
-        (λ rest. AreFilled (kinds_in variables.now) arrays symbols.now rest.now values.old.items values.new.items) }
+    requires many { length frame.now.types ≡ length order.now }
+    requires values { AreIn frame.now values.old.items }
+    ensures { MatchOption result ((vs : List Known) → AreFirst frame.now order.now symbols.now vs → ⊥)
+        (λ rest. AreFilled frame.now order.now symbols.now rest.now values.new.items) }
 {
     let mut rest = symbols;
-    for x in 0..variables.len() {
-        match fill_one(values, variables, rest, arrays, x) {
+    for p in 0..order.len() {
+        match fill_one(values, frame, order, rest, p) {
             None => return None,
             Some(behind) => rest = behind,
         }

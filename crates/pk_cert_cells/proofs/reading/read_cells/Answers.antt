@@ -1,5 +1,5 @@
 use Rattle.std.specs.Prelude.{◌≡◌, ◌<◌, ◌≤◌, List, ℕ, map, length}
-use Rattle.std.proofs.Common.{arith, subst, sym}
+use Rattle.std.proofs.Common.{arith, subst}
 use Rattle.std.specs.Arc.{arc_value}
 use Rattle.std.proofs.lemmas.List.{take_rest, length-map}
 use Rattle.pk_graph.specs.Graphs.{kinds_of}
@@ -8,7 +8,7 @@ use Rattle.pk_cert.specs.Beginnings.{TextsOf, IsStop}
 use Rattle.pk_cert.specs.Heads.{head_view}
 use Rattle.pk_cert.specs.Rows.{AreLines, lines_text}
 use Rattle.pk_cert_states.specs.Lines.{shape_of}
-use Rattle.pk_cert_cells.specs.Reading.{AreReadCells, AreCellsRead, IsStateless}
+use Rattle.pk_cert_cells.specs.Reading.{AreCellsRead, IsStateless}
 use Rattle.pk_cert_cells.proofs.Celling.{read_stops, read_goes_on, read_stateless, read_whole}
 use Rattle.pk_cert_cells.proofs.reading.read_cells.Goals as goal
 

@@ -1,6 +1,5 @@
-use Rattle.pk_cert_states.specs.Parts.{kinds_in}
 use Rattle.pk_cert_lines.specs.Told.{IsTextOf}
 use Rattle.pk_cert_lines.proofs.reading.read_parts.Given as goal
 
 abbrev pub invariant-loop : goal.invariant-loop
-invariant-loop l = IsTextOf (kinds_in l.variables) l.frame l.told
+invariant-loop l = IsTextOf l.order l.frame l.told

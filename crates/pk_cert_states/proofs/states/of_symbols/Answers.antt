@@ -1,48 +1,31 @@
 use Rattle.std.proofs.Common.{sym, subst, ℕ, ◌<◌, List, length}
-use Rattle.pk_graph.specs.Shown.{graph_view}
-use Rattle.pk_graph.specs.Graphs.{kinds_of}
 use Rattle.pk_octmat.specs.Octagon.{Octagon}
 use Rattle.pk_value.specs.Known.{Known}
 use Rattle.pk_state.specs.Layouts.{type_at}
+use Rattle.pk_state.specs.Facts.{known_at}
 use Rattle.pk_state.specs.Changes.{IsValue}
-use Rattle.pk_cert_states.specs.Parts.{kinds_in, known_at, AreBoundsOf, IsBounded}
-use Rattle.pk_cert_states.proofs.Reading.{kinds_same, types_of, facts_first, in_types, bounds_left, read_whole, none_of, some_of}
+use Rattle.pk_cert_states.specs.Parts.{AreBoundsOf, IsBounded}
+use Rattle.pk_cert_states.proofs.Reading.{facts_first, in_types, bounds_left, read_whole, none_of, some_of}
 use Rattle.pk_cert_states.proofs.states.of_symbols.Goals as goal
 
 pub returns-in-None : goal.returns-in-None
-returns-in-None c =
-    let g = graph_view c.args.graph.now in
-    let vs = c.variables-variables.result.now in
-    let same = kinds_same g vs c.variables-variables.ensures in
-    let types = types_of g c.requires.frame.0 c.args.frame.now (kinds_in vs) c.requires.frame.1 same in
-    λ f h told. c.in-None.ensures f.values (facts_first c.args.frame.now (kinds_in vs) (kinds_of g) c.args.symbols.now f types same h told)
+returns-in-None c = λ f h told. c.in-None.ensures f.values (facts_first c.args.frame.now c.args.order.now c.args.symbols.now f h told)
 
 pub bounded-requires-clause-values : goal.bounded-requires-clause-values
 bounded-requires-clause-values c =
-    let g = graph_view c.args.graph.now in
-    let vs = c.variables-variables.result.now in
     let l = c.args.frame.now in
-    let same = kinds_same g vs c.variables-variables.ensures in
-    let types = types_of g c.requires.frame.0 l (kinds_in vs) c.requires.frame.1 same in
-    subst (λ (ws : List Known). (x : ℕ) → x < length ws → IsValue (type_at l x) (known_at ws x)) (sym c.deref.ensures.value) (in_types l (kinds_in vs) c.read_values.new.values.items types c.in-Some.ensures.values)
+    subst (λ (ws : List Known). (x : ℕ) → x < length ws → IsValue (type_at l x) (known_at ws x)) (sym c.deref.ensures.value) (in_types l c.fill.new.values.items c.in-Some.ensures.values)
 
 pub returns-in-None-found : goal.returns-in-None-found
 returns-in-None-found c =
-    let g = graph_view c.args.graph.now in
-    let vs = c.variables-variables.result.now in
     let l = c.args.frame.now in
-    let same = kinds_same g vs c.variables-variables.ensures in
-    let types = types_of g c.requires.frame.0 l (kinds_in vs) c.requires.frame.1 same in
     λ f h told.
     none_of c.in_ok-found-in-Some.found ((m : Octagon) → AreBoundsOf (length l.chosen) c.in-Some.rest.now m → ⊥) (IsBounded l c.deref.result.now c.in-Some.rest.now) c.in_ok-found-in-Some.ensures c.in-None-found.is f.octagon
-    (bounds_left l (kinds_in vs) (kinds_of g) c.args.symbols.now c.in-Some.rest.now c.read_values.new.values.items f types same c.in-Some.ensures h told)
+    (bounds_left l c.args.order.now c.args.symbols.now c.in-Some.rest.now c.fill.new.values.items f c.in-Some.ensures h told)
 
 pub returns : goal.returns
 returns c =
-    let g = graph_view c.args.graph.now in
-    let vs = c.variables-variables.result.now in
     let l = c.args.frame.now in
-    let same = kinds_same g vs c.variables-variables.ensures in
     let is = some_of c.in_ok-found-in-Some.found ((m : Octagon) → AreBoundsOf (length l.chosen) c.in-Some.rest.now m → ⊥) (IsBounded l c.deref.result.now c.in-Some.rest.now) c.in-Some-found.state c.in_ok-found-in-Some.ensures c.in-Some-found.is in
-    read_whole l (kinds_in vs) (kinds_of g) c.args.symbols.now c.in-Some.rest.now c.read_values.new.values.items c.in-Some-found.state same c.in-Some.ensures
+    read_whole l c.args.order.now c.args.symbols.now c.in-Some.rest.now c.fill.new.values.items c.in-Some-found.state c.in-Some.ensures
     (subst (λ (ws : List Known). IsBounded l ws c.in-Some.rest.now c.in-Some-found.state) c.deref.ensures.value is)

@@ -4,7 +4,7 @@ use Rattle.pk_ctypes.specs.declared.types.IntType.TheVariants.{Int}
 use Rattle.pk_state.specs.Layouts.{Layout, type_at}
 use Rattle.pk_state.specs.Changes.{IsValue}
 use Rattle.pk_value.specs.Known.{Known, any_of}
-use Rattle.pk_cert_states.specs.Parts.{known_at}
+use Rattle.pk_state.specs.Facts.{known_at}
 use Rattle.pk_cert_states.proofs.Writing.{written_none, written_on}
 use Rattle.pk_cert_states.proofs.states.with_facts.Goals as goal
 
