@@ -8,7 +8,7 @@ use Rattle.pk_show.specs.declared.rows.Form.{Form}
 use Rattle.pk_show.specs.declared.rows.Form.TheVariants.{Difference, Sum, NegatedSum}
 use Rattle.pk_show.specs.declared.rows.Known.{Known}
 use Rattle.pk_show.specs.Paths.{PathOf, path_in}
-use Rattle.pk_show.specs.Rows.{HeadingOf, ValueOf, BoundOf, array_mark, front_of}
+use Rattle.pk_show.specs.Rows.{HeadingOf, ValueOf, BoundOf, mark_of, front_of}
 use Rattle.pk_findings.specs.Texts.{TextOf}
 use Rattle.pk_findings.specs.Messages.{range_text}
 use Rattle.pk_listing.specs.Places.{place_text, path_text}
@@ -41,7 +41,7 @@ unfoldable pub known_text : Known → List ℕ
 known_text k = codes " in " ++ (range_text k.lo k.hi ++ class_end k)
 
 abbrev pub name_text : ValueOf → List ℕ
-name_text v = v.name ++ array_mark v.is_array
+name_text v = v.name ++ mark_of v.subject
 
 unfoldable pub value_text : ValueOf → List ℕ
 value_text v = codes "    " ++ (name_text v ++ known_text v.known)

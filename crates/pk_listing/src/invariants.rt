@@ -1,15 +1,15 @@
 // What holds at the heads of loops, and at other points that a report tells.
 
-ghost use Rattle.std.specs.Prelude.{◌≡◌, ◌++◌, OnOk};
-ghost use Rattle.std.specs.Fmt.{signed_decimal};
+ghost use Rattle.std.specs.Prelude.{◌≡◌, ◌++◌, OnOk, codes};
+ghost use Rattle.std.specs.Fmt.{decimal, signed_decimal};
 ghost use Rattle.pk_show.specs.Paths.{path_in};
-ghost use Rattle.pk_show.specs.Rows.{array_mark, front_of};
+ghost use Rattle.pk_show.specs.Rows.{mark_of, front_of};
 ghost use Rattle.pk_listing.specs.Invariants as invariants;
 
-use crate::places::{write, write_path, write_place};
+use crate::places::{write, write_count, write_path, write_place};
 use itoa::Buffer;
 use pk_findings::{Text, write_range};
-use pk_show::{Bound, Form, Heading, Known, Row, Value, read_path};
+use pk_show::{Bound, Form, Heading, Known, Row, Subject, Value, read_path};
 use std::alloc::{AllocError, Global};
 
 fn heading_words(is_head: bool) -> &'static [u8]
@@ -101,17 +101,29 @@ fn write_known(bytes: &mut Vec<u8>, known: Known) -> Result<(), AllocError>
     write_class_end(bytes, known)
 }
 
-fn array_mark(is_array: bool) -> &'static [u8]
-    ensures { result.now ≡ array_mark is_array }
+fn write_number_of_element(bytes: &mut Vec<u8>, number: u64) -> Result<(), AllocError>
+    ensures { OnOk result (bytes.new.items ≡ bytes.old.items ++ (codes "[" ++ (decimal number ++ codes "]"))) }
 {
-    if is_array { b"[]" } else { b"" }
+    write(bytes, b"[")?;
+    write_count(bytes, number)?;
+    write(bytes, b"]")
+}
+
+fn write_mark(bytes: &mut Vec<u8>, subject: Subject) -> Result<(), AllocError>
+    ensures { OnOk result (bytes.new.items ≡ bytes.old.items ++ mark_of subject) }
+{
+    match subject {
+        Subject::Scalar => Ok(()),
+        Subject::EachElement => write(bytes, b"[]"),
+        Subject::Element(number) => write_number_of_element(bytes, number),
+    }
 }
 
 fn write_name(bytes: &mut Vec<u8>, value: &Value<'_>) -> Result<(), AllocError>
     ensures { OnOk result (bytes.new.items ≡ bytes.old.items ++ invariants.name_text value.now) }
 {
     write(bytes, value.name)?;
-    write(bytes, array_mark(value.is_array))
+    write_mark(bytes, value.subject)
 }
 
 #[tactic(auto, unfolding(crate::specs::Invariants::value_text))]

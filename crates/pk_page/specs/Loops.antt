@@ -6,11 +6,13 @@ use Rattle.pk_show.specs.declared.report.Row.TheVariants as row
 use Rattle.pk_show.specs.declared.rows.Form.{Form}
 use Rattle.pk_show.specs.declared.rows.Form.TheVariants as form
 use Rattle.pk_show.specs.declared.rows.Known.{Known}
+use Rattle.pk_show.specs.declared.rows.Subject.{Subject}
+use Rattle.pk_show.specs.declared.rows.Subject.TheVariants.{Scalar, EachElement, Element}
 use Rattle.pk_show.specs.Paths.{PathOf, path_in}
 use Rattle.pk_show.specs.Rows.{HeadingOf, ValueOf, BoundOf}
 use Rattle.pk_findings.specs.Texts.{TextOf}
 use Rattle.pk_html.specs.declared.parts.Part.{Part}
-use Rattle.pk_html.specs.declared.parts.Part.TheVariants.{Tag, Text, Number}
+use Rattle.pk_html.specs.declared.parts.Part.TheVariants.{Tag, Text, Count, Number}
 use Rattle.pk_html.specs.declared.tags.Tag.{Tag as TagOf}
 use Rattle.pk_html.specs.declared.tags.Tag.TheVariants as tag
 use Rattle.pk_page.specs.Places.{place_parts, path_parts}
@@ -28,9 +30,11 @@ heading_parts i t h =
     (Tag (heading_open h.is_head) ∷ []) ++ (place_parts i t h.at ++
     ((Tag tag.LoopIn ∷ []) ++ (way_to i t (path_in h.path) ++ (Tag tag.HeadingEnd ∷ []))))
 
-abbrev pub array_parts : (is_array : Bool) → List Part
-array_parts true = Tag tag.ArrayMark ∷ []
-array_parts false = []
+-- what stands behind a name
+abbrev pub mark_parts : Subject → List Part
+mark_parts Scalar = []
+mark_parts EachElement = Tag tag.ArrayMark ∷ []
+mark_parts (Element i) = Tag tag.ElementOpen ∷ Count i ∷ Tag tag.ElementEnd ∷ []
 
 abbrev pub range_parts : Known → List Part
 range_parts k = Tag tag.In ∷ Number k.lo ∷ Tag tag.Comma ∷ Number k.hi ∷ Tag tag.InEnd ∷ []
@@ -43,7 +47,7 @@ class_parts k =
 
 unfoldable pub value_parts : ValueOf → List Part
 value_parts v =
-    (Tag tag.FactOpen ∷ Text v.name ∷ []) ++ (array_parts v.is_array ++
+    (Tag tag.FactOpen ∷ Text v.name ∷ []) ++ (mark_parts v.subject ++
     (range_parts v.known ++ (class_parts v.known ++ (Tag tag.FactEnd ∷ []))))
 
 abbrev pub front_parts : Form → List Part

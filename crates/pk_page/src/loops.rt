@@ -5,12 +5,12 @@ ghost use Rattle.std.specs.List.{flat_map};
 ghost use Rattle.pk_show.specs.Paths.{path_in};
 ghost use Rattle.pk_html.specs.declared.parts.Part.TheVariants as part;
 ghost use Rattle.pk_html.specs.Parts.{parts_text};
-ghost use Rattle.pk_page.specs.Loops.{heading_open, way_to, heading_parts, array_parts, range_parts, class_parts, value_parts, front_parts, sign_of, sides_parts, bound_parts, fact_parts, loops_parts};
+ghost use Rattle.pk_page.specs.Loops.{heading_open, way_to, heading_parts, mark_parts, range_parts, class_parts, value_parts, front_parts, sign_of, sides_parts, bound_parts, fact_parts, loops_parts};
 
 use crate::places::{write_path, write_place};
 use pk_findings::Text as Source;
 use pk_html::{Part, Tag, Text, write};
-use pk_show::{Bound, Form, Heading, Known, Row, Value, read_path};
+use pk_show::{Bound, Form, Heading, Known, Row, Subject, Value, read_path};
 use std::alloc::{AllocError, Global};
 
 fn heading_open(is_head: bool) -> Tag
@@ -63,13 +63,20 @@ fn write_tag(bytes: &mut Vec<u8>, tag: Tag) -> Result<(), AllocError>
     write(bytes, &[Part::Tag(tag)])
 }
 
-fn write_array(bytes: &mut Vec<u8>, is_array: bool) -> Result<(), AllocError>
-    ensures { OnOk result (bytes.new.items ≡ bytes.old.items ++ parts_text (array_parts is_array)) }
+fn write_mark(bytes: &mut Vec<u8>, subject: Subject) -> Result<(), AllocError>
+    ensures { OnOk result (bytes.new.items ≡ bytes.old.items ++ parts_text (mark_parts subject)) }
 {
-    if is_array {
-        write(bytes, &[Part::Tag(Tag::ArrayMark)])
-    } else {
-        Ok(())
+    match subject {
+        Subject::Scalar => Ok(()),
+        Subject::EachElement => write(bytes, &[Part::Tag(Tag::ArrayMark)]),
+        Subject::Element(number) => write(
+            bytes,
+            &[
+                Part::Tag(Tag::ElementOpen),
+                Part::Count(number),
+                Part::Tag(Tag::ElementEnd),
+            ],
+        ),
     }
 }
 
@@ -117,7 +124,7 @@ fn write_value(bytes: &mut Vec<u8>, value: &Value<'_>) -> Result<(), AllocError>
             Part::Text(Text { bytes: value.name }),
         ],
     )?;
-    write_array(bytes, value.is_array)?;
+    write_mark(bytes, value.subject)?;
     write_range(bytes, value.known)?;
     write_class(bytes, value.known)?;
     write_tag(bytes, Tag::FactEnd)

@@ -1,4 +1,5 @@
 pub mod BoundLemmas
 pub mod VerdictLemmas
+mod LayoutLemmas
 pub mod StateLemmas
 pub mod ReadBackLemmas

@@ -38,7 +38,7 @@ use Rattle.pk_show_laws.specs.Laws.{ReportsGiveTheirRows}
 use Rattle.pk_show_laws.specs.Tellable.{IsCalledBefore, IsPathOf, IsName, HasTellableNames, IsTellableAccess, IsTellable}
 use Rattle.pk_show_laws.proofs.TellableLemmas.{graphs_are_tellable}
 use Rattle.pk_read_back_laws.specs.Laws.{CanBeReported, GraphReportsAreReadBack, IsTellableUnit, ReportsAreReadBack}
-use Rattle.pk_read_back_laws.proofs.StateLemmas.{states_told, verdicts_told, elements_few, each_with, paired}
+use Rattle.pk_read_back_laws.proofs.StateLemmas.{states_told, layouts_told, verdicts_told, elements_few, each_with, paired}
 
 -- ---- graphs
 
@@ -64,6 +64,7 @@ report_told : (g : GraphOf) (o : Options) (most : ℕ) (p : PlanView) (states : 
 report_told g o most p states h oct few x = record {
   graph = graphs_are_tellable g h.graph h.names;
   elements_few = elements_few g o most p states h.graph oct x;
+  layouts = layouts_told g o most p states h.graph oct x;
   facts = states_told g o most p states h.graph oct x;
   each = each_with (IsTellableAccess g) (verdict_at states) (accesses_of g) (λ k d l. (let a = h.accesses k d l in record { path = a.path; at = a.at; verdict = verdicts_told g o most p states h.graph oct x k d l }));
   verdicts_few = subst (λ n. n < 2 ^ 64) (sym (length-map (accesses_of g) (verdict_at states))) few;

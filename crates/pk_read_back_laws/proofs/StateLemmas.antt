@@ -11,6 +11,7 @@ use Rattle.pk_graph.specs.declared.verdicts.Verdict.TheVariants.{Safe, Unknown, 
 use Rattle.pk_graph.specs.Accesses.{AccessOf, accesses_of}
 use Rattle.pk_graph.specs.Graphs.{EdgeOf, PointOf, GraphOf}
 use Rattle.pk_graph.specs.WellMade.{IsGraph}
+use Rattle.pk_state.specs.Layouts.{Layout}
 use Rattle.pk_state.specs.Facts.{Stated, AreFactsIf}
 use Rattle.pk_state.proofs.Held.{facts_stay}
 use Rattle.pk_plan.specs.declared.components.Component.{Component}
@@ -33,9 +34,10 @@ use Rattle.pk_sound.specs.Families.{IsFamilyOf}
 use Rattle.pk_sound.proofs.Holding.{results_are_families}
 use Rattle.pk_show.specs.Laws.{IsVerdict}
 use Rattle.pk_show_laws.specs.ReportRows as rows
-use Rattle.pk_show_laws.specs.Tellable.{AreTellable}
+use Rattle.pk_show_laws.specs.Tellable.{AreTellable, IsTellableLayout}
 use Rattle.pk_show_laws.proofs.TellableLemmas.{number_is, facts_are_tellable}
 use Rattle.pk_read_back_laws.specs.Laws.{VerdictsAreTellable}
+use Rattle.pk_read_back_laws.proofs.LayoutLemmas.{layout_told, nothing_told}
 use Rattle.pk_read_back_laws.proofs.VerdictLemmas.{IsSmallVerdict, verdict_small}
 
 -- ---- verdicts
@@ -85,15 +87,25 @@ module _ (g : GraphOf) (o : Options) (most : ℕ) (p : PlanView) (states : List 
       subst (λ (t : Stated). AreFactsIf x.flow.layout t.facts) (sym (cell_is v l))
       (facts_stay.reductions x.flow.layout _ family.laid_out.layout (family.solved.facts v l))
 
+  many : length states ≡ length g.points
+  many = ap (λ (ss : List Stated). length ss) x.reduced ∙ length-map (take (length g.points) x.outcome.cells) (reduced_cell x.flow) ∙ length-take-le (length g.points) x.outcome.cells enough
+
+  no_point : (v : ℕ) → length g.points ≤ v → state_at states v ≡ no_state
+  no_point v l = get_or_past states v no_state (omega (arith, l, many))
+
   state_by : (v : ℕ) → (v < length g.points) ⊎ (length g.points ≤ v) → AreTellable (state_at states v).facts
   state_by v (inl l) = facts_are_tellable x.flow.layout (state_at states v).facts (facts_are v l)
-  state_by v (inr l) =
-      let many : length states ≡ length g.points =
-      ap (λ (ss : List Stated). length ss) x.reduced ∙ length-map (take (length g.points) x.outcome.cells) (reduced_cell x.flow) ∙ length-take-le (length g.points) x.outcome.cells enough in
-      subst (λ (t : Stated). AreTellable t.facts) (sym (get_or_past states v no_state (omega (arith, l, many)))) tt
+  state_by v (inr l) = subst (λ (t : Stated). AreTellable t.facts) (sym (no_point v l)) tt
 
   pub states_told : (v : ℕ) → AreTellable (state_at states v).facts
   states_told v = state_by v (cases_lt v (length g.points))
+
+  layout_by : (v : ℕ) → (v < length g.points) ⊎ (length g.points ≤ v) → IsTellableLayout g (state_at states v).layout
+  layout_by v (inl l) = subst (λ (y : Layout). IsTellableLayout g y) (sym (layout_is v l)) (layout_told g x.flow.layout family.laid_out.over)
+  layout_by v (inr l) = subst (λ (t : Stated). IsTellableLayout g t.layout) (sym (no_point v l)) (nothing_told g)
+
+  pub layouts_told : (v : ℕ) → IsTellableLayout g (state_at states v).layout
+  layouts_told v = layout_by v (cases_lt v (length g.points))
 
   pub verdict_told : (a : AccessOf) → IsAccessOver g x.flow.layout a → IsVerdict (rows.verdict_of (verdict_at states a))
   verdict_told a h =

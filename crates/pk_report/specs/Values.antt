@@ -1,23 +1,29 @@
 -- The lines of what is known at a point.
-use Rattle.std.specs.Prelude.{ℕ, ◌+◌, ◌-◌, ◌*◌, ◌^◌, ℤ, pos, negsuc, ◌≤ℤ◌, ◌+ℤ◌, ◌-ℤ◌, int_lt, Bool, true, false, is_some, if◌then◌else◌, List, [], ◌∷◌, ◌++◌, codes, Option, Some, None, option_map, unwrap_or}
-use Rattle.std.specs.Fmt.{signed_decimal}
-use Rattle.std.specs.List.{flat_map, filter_map}
+use Rattle.std.specs.Prelude.{ℕ, ◌+◌, ◌-◌, ◌*◌, ◌^◌, ◌<◌, ℤ, pos, negsuc, ◌≤ℤ◌, ◌+ℤ◌, ◌-ℤ◌, int_lt, if◌then◌else◌, List, [], ◌∷◌, ◌++◌, codes, length, Option, Some, None, option_map, unwrap_or}
+use Rattle.std.specs.Fmt.{decimal, signed_decimal}
+use Rattle.std.specs.List.{flat_map, filter_map, range_with_len}
 use Rattle.pk_report.specs.declared.octagons.Placed.{Placed}
 use Rattle.pk_report.specs.declared.octagons.Bounds.{Bounds}
+use Rattle.pk_report.specs.declared.values.Subject.{Subject}
+use Rattle.pk_report.specs.declared.values.Subject.TheVariants.{Scalar, Array, Element}
+use Rattle.pk_graph.specs.Kinds.{count_of}
 use Rattle.pk_graph.specs.Graphs.{GraphOf, variable_at}
 use Rattle.pk_interval.specs.Ranges.{Range}
 use Rattle.pk_congr.specs.Classes.{Class}
 use Rattle.pk_value.specs.Known.{Known}
 use Rattle.pk_octmat.specs.Octagon.{entry}
-use Rattle.pk_state.specs.Layouts.{Layout, place_in}
+use Rattle.pk_state.specs.Layouts.{Layout, is_spread, slot_of, place_in}
 use Rattle.pk_state.specs.Facts.{Facts, known_at}
+use Rattle.pk_state.specs.Changes.{known_in}
 
 abbrev pub name_of : GraphOf → ℕ → List ℕ
 name_of g x = unwrap_or (variable_at g x).name []
 
-abbrev pub brackets : Bool → List ℕ
-brackets true = codes "[]"
-brackets false = []
+-- what stands behind a name: `[]` of an array, `[i]` of an element
+abbrev pub mark_of : Subject → List ℕ
+mark_of Scalar = []
+mark_of Array = codes "[]"
+mark_of (Element i) = codes "[" ++ decimal i ++ codes "]"
 
 abbrev pub range_text : Range → List ℕ
 range_text r = codes " [" ++ signed_decimal r.lo ++ codes "," ++ signed_decimal r.hi ++ codes "] "
@@ -25,12 +31,34 @@ range_text r = codes " [" ++ signed_decimal r.lo ++ codes "," ++ signed_decimal 
 abbrev pub class_text : Class → List ℕ
 class_text c = signed_decimal c.m ++ codes "Z+" ++ signed_decimal c.r ++ codes "\n"
 
--- `  NAME [lo,hi] mZ+r`, an array as `  NAME[] [lo,hi] mZ+r`
-abbrev pub value_text : List ℕ → (is_array : Bool) → Known → List ℕ
-value_text name is_array k = codes "  " ++ name ++ brackets is_array ++ range_text k.range ++ class_text k.class
+-- `  NAME [lo,hi] mZ+r`, an array as `  NAME[] [lo,hi] mZ+r`, an element as `  NAME[i] [lo,hi] mZ+r`
+abbrev pub value_text : List ℕ → Subject → Known → List ℕ
+value_text name s k = codes "  " ++ name ++ mark_of s ++ range_text k.range ++ class_text k.class
 
-abbrev pub value_line : GraphOf → Facts → ℕ → List ℕ
-value_line g f x = value_text (name_of g x) (is_some (variable_at g x).kind.length) (known_at f.values x)
+abbrev pub subject_of : (length : Option ℕ) → Subject
+subject_of None = Scalar
+subject_of (Some n) = Array
+
+abbrev pub whole_line : GraphOf → Facts → ℕ → List ℕ
+whole_line g f x = value_text (name_of g x) (subject_of (variable_at g x).kind.length) (known_at f.values x)
+
+abbrev pub element_line : GraphOf → Layout → Facts → ℕ → ℕ → List ℕ
+element_line g l f x i = value_text (name_of g x) (Element i) (known_at f.values (slot_of l x i))
+
+-- how many numbers a variable has
+abbrev pub numbers_of : GraphOf → ℕ → ℕ
+numbers_of g x = count_of (variable_at g x).kind.length
+
+-- a line for each number of a variable, if each has a slot, else one for the variable
+abbrev pub value_lines : GraphOf → Layout → Facts → ℕ → List ℕ
+value_lines g l f x =
+    if is_spread l x then flat_map (element_line g l f x) (range_with_len 0 (numbers_of g x)) else whole_line g f x
+
+-- each variable, and each of its numbers, has a slot
+pub record HasSlots (g : GraphOf) (l : Layout) : Type 0 where
+  pub further : (x : ℕ) → x < length g.variables → x < length l.further
+  pub own : (x : ℕ) → x < length g.variables → x < length l.types
+  pub there : (x i : ℕ) → x < length g.variables → i < numbers_of g x → slot_of l x i < length l.types
 
 -- the variables that the octagon is over, with their places there
 abbrev pub placed_in : Layout → ℕ → Option Placed
@@ -75,13 +103,25 @@ of_pairs line (p ∷ ps) = flat_map (line p) ps ++ of_pairs line ps
 -- of the visible variables
 abbrev pub facts_lines : GraphOf → Layout → Option Facts → List ℕ → List ℕ
 facts_lines g l None xs = codes "  unreachable\n"
-facts_lines g l (Some f) xs = flat_map (value_line g f) xs ++ of_pairs (pair_lines g f) (placed l xs)
+facts_lines g l (Some f) xs = flat_map (value_lines g l f) xs ++ of_pairs (pair_lines g f) (placed l xs)
 
 -- ---- where there may be no facts
 
-abbrev pub value_line_if : GraphOf → Option Facts → ℕ → List ℕ
-value_line_if g None x = []
-value_line_if g (Some f) x = value_line g f x
+abbrev pub value_text_if : List ℕ → Subject → Option Known → List ℕ
+value_text_if name s None = []
+value_text_if name s (Some k) = value_text name s k
+
+abbrev pub whole_line_if : GraphOf → Option Facts → ℕ → List ℕ
+whole_line_if g o x = value_text_if (name_of g x) (subject_of (variable_at g x).kind.length) (known_in o x)
+
+abbrev pub element_line_if : GraphOf → Layout → Option Facts → ℕ → ℕ → List ℕ
+element_line_if g l o x i = value_text_if (name_of g x) (Element i) (known_in o (slot_of l x i))
+
+abbrev pub elements_lines_if : GraphOf → Layout → Option Facts → ℕ → List ℕ
+elements_lines_if g l o x = flat_map (element_line_if g l o x) (range_with_len 0 (numbers_of g x))
+
+abbrev pub value_lines_if : GraphOf → Layout → Option Facts → ℕ → List ℕ
+value_lines_if g l o x = if is_spread l x then elements_lines_if g l o x else whole_line_if g o x
 
 abbrev pub pair_lines_if : GraphOf → Option Facts → Placed → Placed → List ℕ
 pair_lines_if g None p q = []

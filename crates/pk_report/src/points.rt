@@ -3,7 +3,7 @@
 ghost use Rattle.std.specs.Prelude.{◌≡◌, ◌<◌, ◌++◌, ◌||◌, OnOk, IfOk, All, codes, length};
 ghost use Rattle.std.specs.Fmt.{decimal};
 ghost use Rattle.pk_graph.specs.Shown.{graph_view};
-ghost use Rattle.pk_report.specs.Values.{facts_lines};
+ghost use Rattle.pk_report.specs.Values.{facts_lines, HasSlots};
 ghost use Rattle.pk_report.specs.Reports.{point_word, place_end, heading, point_lines, AreHeads};
 
 use crate::octagons::write_octagon;
@@ -23,7 +23,8 @@ fn write_facts(
     state: &State,
     visible: &[usize],
 ) -> Result<(), AllocError>
-    requires { All (λ x. x < length state.now.layout.types) visible.now }
+    requires slots { HasSlots (graph_view graph.now) state.now.layout }
+    requires visible { All (λ x. x < length (graph_view graph.now).variables) visible.now }
     ensures { OnOk result (bytes.new.items
         ≡ bytes.old.items ++ facts_lines (graph_view graph.now) state.now.layout state.now.facts visible.now) }
 {
@@ -93,7 +94,7 @@ pub fn write_point(
     is_head: bool,
 ) -> Result<(), AllocError>
     requires point { point < length (graph_view graph.now).points }
-    requires layout { length state.now.layout.types ≡ length (graph_view graph.now).variables }
+    requires slots { HasSlots (graph_view graph.now) state.now.layout }
     ensures { OnOk result
         (bytes.new.items ≡ bytes.old.items ++ point_lines (graph_view graph.now) state.now is_head point) }
 {

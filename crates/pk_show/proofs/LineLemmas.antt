@@ -1,20 +1,25 @@
 -- Each line of a report but an access is read back from its text.
-use Rattle.std.proofs.Common.{◌≡◌, ℕ, ◌<◌, ◌^◌, ◌==◌, List, [], ◌∷◌, ◌++◌, refl, sym, ap, ◌∙◌, Bool, true, false, not, ◌&&◌, ◌||◌, arith, Some, append_assoc, lit≤}
+use Rattle.std.proofs.Common.{◌≡◌, ℕ, ◌<◌, ◌≤◌, ◌^◌, ◌==◌, List, [], ◌∷◌, ◌++◌, length, refl, sym, ap, ◌∙◌, Bool, true, false, not, ◌&&◌, ◌||◌, arith, Some, append_assoc, lit≤}
 use Rattle.std.specs.Prelude.{ℤ, codes}
 use Rattle.std.specs.Fmt.{decimal, signed_decimal}
 use Rattle.std.specs.List.{list_all}
+use Rattle.std.specs.Char.{digit_value}
+use Rattle.std.specs.Cmp.Lexicographic.{same_text}
 use Rattle.std.proofs.lemmas.Bool.{and_from, and_parts, eqb-true}
-use Rattle.std.proofs.lemmas.List.{append-nil}
+use Rattle.std.proofs.lemmas.List.{append-nil, length_push}
+use Rattle.std.proofs.lemmas.Fmt.{decimal_nonempty}
 use Rattle.std.proofs.lemmas.List.Folds.{list_all-append}
-use Rattle.pk_lex.specs.Bytes.{is_letter, is_digit, is_part, begins_with}
+use Rattle.pk_lex.specs.Bytes.{is_letter, is_digit, is_part, begins_with, same}
 use Rattle.pk_show.specs.declared.rows.Form.{Form}
 use Rattle.pk_show.specs.declared.rows.Form.TheVariants.{Difference, Sum, NegatedSum}
 use Rattle.pk_show.specs.declared.rows.Counts.{Counts}
 use Rattle.pk_show.specs.declared.rows.Known.{Known}
+use Rattle.pk_show.specs.declared.rows.Subject.{Subject}
+use Rattle.pk_show.specs.declared.rows.Subject.TheVariants.{Scalar, EachElement, Element}
 use Rattle.pk_show.specs.Pieces.{lacks, is_identifier}
-use Rattle.pk_show.specs.Rows.{OpeningOf, HeadingOf, ValueOf, BoundOf, opening_text, heading_text, value_text, bound_text, counts_text, head_word, array_mark, front_of, sign_of, known_text, class_text}
-use Rattle.pk_show.specs.Reading.{opening_in, heading_in, array_name_in, class_in, known_in, value_in, form_in, bound_in, others_in, counts_in}
-use Rattle.pk_show.specs.Laws.{IsNumber, IsOpening, IsHeading, IsValue, IsBound, AreCounts, IsKnown}
+use Rattle.pk_show.specs.Rows.{OpeningOf, HeadingOf, ValueOf, BoundOf, opening_text, heading_text, value_text, bound_text, counts_text, head_word, mark_of, front_of, sign_of, known_text, class_text}
+use Rattle.pk_show.specs.Reading.{opening_in, heading_in, element_in, elements_in, array_in, subject_in, class_in, known_in, value_in, form_in, bound_in, others_in, counts_in}
+use Rattle.pk_show.specs.Laws.{IsNumber, IsOpening, IsHeading, IsSubject, IsValue, IsBound, AreCounts, IsKnown}
 use Rattle.pk_show.proofs.AccessLemmas.{place_read}
 use Rattle.pk_show.proofs.PieceLemmas.{strip_read, cut_read, count_read, signed_read, no_minus, decimal_lacks, signed_lacks}
 
@@ -128,10 +133,10 @@ known_read k h =
 
 -- ---- variables
 
-brackets_none : (b : ℕ) (text : List ℕ) → is_identifier ((b ∷ text) ++ codes "[]") ≡ false
+brackets_none : (b : ℕ) (text rest : List ℕ) → is_identifier ((b ∷ text) ++ (codes "[" ++ rest)) ≡ false
 unfolding is_identifier
-brackets_none b text =
-    ap (λ (t : Bool). is_letter b && t) (list_all-append is_part text (codes "[]") ∙ and_no (list_all is_part text)) ∙ and_no (is_letter b)
+brackets_none b text rest =
+    ap (λ (t : Bool). is_letter b && t) (list_all-append is_part text (codes "[" ++ rest) ∙ and_no (list_all is_part text)) ∙ and_no (is_letter b)
   where
     and_no : (t : Bool) → (t && false) ≡ false
     and_no true = refl
@@ -141,37 +146,68 @@ no_empty_name : is_identifier [] ≡ true → ⊥
 unfolding is_identifier
 no_empty_name e = cc e
 
-name_read : (name : List ℕ) (is_array : Bool) → is_identifier name ≡ true →
-    array_name_in (name ++ array_mark is_array) ≡ Some (name, is_array)
-unfolding array_name_in
-name_read name false h = rw (append-nil name, h) refl
-name_read [] true h = absurd (no_empty_name h)
-name_read (b ∷ text) true h =
-    rw (
-      brackets_none b text,
-      cut_read 91 (codes "]") (b ∷ text) [] (name_lacks 91 (b ∷ text) refl h),
-      h,
-    )
-    refl
+element_read : (i : ℕ) → i < 2 ^ 64 → element_in (decimal i ++ codes "]") ≡ Some (Element i)
+unfolding element_in
+element_read i h = rw (cut_read 93 [] (decimal i) [] (decimal_lacks 93 i (lit≤ tt) (omega arith)), count_read i h) refl
 
-marked_lacks : (c : ℕ) (name : List ℕ) (is_array : Bool) → is_part c ≡ false → lacks c (array_mark is_array) ≡ true → is_identifier name ≡ true →
-    lacks c (name ++ array_mark is_array) ≡ true
-marked_lacks c name is_array apart mark h =
-    list_all-append (λ (b : ℕ). not (c == b)) name (array_mark is_array)
-    ∙ and_from (lacks c name) (lacks c (array_mark is_array)) (name_lacks c name apart h) mark
+not_each : (i : ℕ) → i < 2 ^ 64 → (t : Bool) → t ≡ same (decimal i ++ codes "]") (codes "]") → t ≡ false
+not_each i h false is = refl
+not_each i h true is =
+    let one : length (decimal i ++ codes "]") ≡ 1 = ap length (same_text (decimal i ++ codes "]") (codes "]") is) in
+    absurd (omega (arith, one, length_push (decimal i) 93, decimal_nonempty i h))
 
-mark_lacks : (is_array : Bool) → lacks 32 (array_mark is_array) ≡ true
-mark_lacks true = refl
-mark_lacks false = refl
+elements_read : (i : ℕ) → i < 2 ^ 64 → elements_in (decimal i ++ codes "]") ≡ Some (Element i)
+unfolding elements_in
+elements_read i h = rw (not_each i h (same (decimal i ++ codes "]") (codes "]")) refl, element_read i h) refl
+
+array_read : (name rest : List ℕ) (s : Subject) → is_identifier name ≡ true → elements_in rest ≡ Some s → array_in (name ++ (codes "[" ++ rest)) ≡ Some (name, s)
+unfolding array_in
+array_read name rest s h e = rw (cut_read 91 [] name rest (name_lacks 91 name refl h), h, e) refl
+
+behind_name : (b : ℕ) (text rest : List ℕ) (s : Subject) → is_identifier (b ∷ text) ≡ true → elements_in rest ≡ Some s →
+    subject_in ((b ∷ text) ++ (codes "[" ++ rest)) ≡ Some (b ∷ text, s)
+unfolding subject_in
+behind_name b text rest s h e = rw (brackets_none b text rest, array_read (b ∷ text) rest s h e) refl
+
+alone : (name : List ℕ) → is_identifier name ≡ true → subject_in (name ++ []) ≡ Some (name, Scalar)
+unfolding subject_in
+alone name h = rw (append-nil name, h) refl
+
+each_read : elements_in (codes "]") ≡ Some EachElement
+unfolding elements_in
+each_read = refl
+
+name_read : (name : List ℕ) (s : Subject) → is_identifier name ≡ true → IsSubject s → subject_in (name ++ mark_of s) ≡ Some (name, s)
+name_read name Scalar h k = alone name h
+name_read [] EachElement h k = absurd (no_empty_name h)
+name_read [] (Element i) h k = absurd (no_empty_name h)
+name_read (b ∷ text) EachElement h k = behind_name b text (codes "]") EachElement h each_read
+name_read (b ∷ text) (Element i) h k = behind_name b text (decimal i ++ codes "]") (Element i) h (elements_read i k)
+
+marked_lacks : (c : ℕ) (name : List ℕ) (s : Subject) → is_part c ≡ false → lacks c (mark_of s) ≡ true → is_identifier name ≡ true →
+    lacks c (name ++ mark_of s) ≡ true
+marked_lacks c name s apart mark h =
+    list_all-append (λ (b : ℕ). not (c == b)) name (mark_of s)
+    ∙ and_from (lacks c name) (lacks c (mark_of s)) (name_lacks c name apart h) mark
+
+pub mark_lacks : (c : ℕ) (s : Subject) → 10 ≤ digit_value c → lacks c (codes "[]") ≡ true → IsSubject s → lacks c (mark_of s) ≡ true
+mark_lacks c Scalar high apart h = refl
+mark_lacks c EachElement high apart h = apart
+mark_lacks c (Element i) high apart h =
+    let few : i < 2 ^ 64 = h in
+    let both = and_parts (not (c == 91)) (lacks c (codes "]")) apart in
+    and_from (not (c == 91)) (lacks c (decimal i ++ codes "]")) both.0
+    (list_all-append (λ (b : ℕ). not (c == b)) (decimal i) (codes "]")
+    ∙ and_from (lacks c (decimal i)) (lacks c (codes "]")) (decimal_lacks c i high (omega (arith, few))) both.1)
 
 pub value_read : (v : ValueOf) → IsValue v → value_in (value_text v) ≡ Some v
 unfolding value_in
 value_read v h =
-    let name = v.name ++ array_mark v.is_array in
+    let name = v.name ++ mark_of v.subject in
     rw (
       strip_read (codes "  ") (name ++ (codes " [" ++ known_text v.known)),
-      cut_read 32 (codes "[") name (known_text v.known) (marked_lacks 32 v.name v.is_array refl (mark_lacks v.is_array) h.name),
-      name_read v.name v.is_array h.name,
+      cut_read 32 (codes "[") name (known_text v.known) (marked_lacks 32 v.name v.subject refl (mark_lacks 32 v.subject (lit≤ tt) refl h.subject) h.name),
+      name_read v.name v.subject h.name h.subject,
       known_read v.known h.known,
     )
     refl

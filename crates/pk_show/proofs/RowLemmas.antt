@@ -20,13 +20,13 @@ use Rattle.pk_show.specs.declared.rows.Verdict.{Verdict}
 use Rattle.pk_show.specs.declared.rows.Verdict.TheVariants.{Safe, Unknown, Unreachable}
 use Rattle.pk_show.specs.Pieces.{strip, field_of, cut, lacks, is_identifier}
 use Rattle.pk_show.specs.Paths.{path_in}
-use Rattle.pk_show.specs.Rows.{OpeningOf, HeadingOf, ValueOf, BoundOf, AccessOf, opening_text, heading_text, no_run_text, value_text, bound_text, access_text, counts_text, verdict_text, head_word, array_mark, front_of, sign_of, known_text}
+use Rattle.pk_show.specs.Rows.{OpeningOf, HeadingOf, ValueOf, BoundOf, AccessOf, opening_text, heading_text, no_run_text, value_text, bound_text, access_text, counts_text, verdict_text, head_word, mark_of, front_of, sign_of, known_text}
 use Rattle.pk_show.specs.Reading.{opening_in, heading_in, value_in, bound_in, access_in, counts_in}
 use Rattle.pk_show.specs.Reports.{point_row_in, row_in, has_path}
 use Rattle.pk_show.specs.Laws.{IsNumber, IsOpening, IsHeading, IsValue, IsBound, IsAccess, AreCounts, IsKnown, IsVerdict, IsPlace, TellsPath, row_text, IsRow}
 use Rattle.pk_show.proofs.PieceLemmas.{strip_read, field_length, decimal_lacks, signed_lacks}
 use Rattle.pk_show.proofs.AccessLemmas.{access_read}
-use Rattle.pk_show.proofs.LineLemmas.{name_lacks, front_lacks, opening_read, heading_read, value_read, bound_read, counts_read}
+use Rattle.pk_show.proofs.LineLemmas.{name_lacks, mark_lacks, front_lacks, opening_read, heading_read, value_read, bound_read, counts_read}
 use Rattle.pk_show.proofs.PathLemmas.{both_lack, place_lacks, path_read, path_lacks}
 
 -- ---- which kind a line is
@@ -242,14 +242,10 @@ known_whole k h =
     (joined (word (codes "] ") refl)
     (joined (number k.modulus h.modulus) (joined (word (codes "Z+") refl) (number k.rest h.rest))))))
 
-mark_whole : (is_array : Bool) → lacks 10 (array_mark is_array) ≡ true
-mark_whole true = refl
-mark_whole false = refl
-
 value_whole : (v : ValueOf) → IsValue v → IsWhole (value_text v)
 value_whole v h =
     joined (word (codes "  ") refl)
-    (joined (joined (name v.name h.name) (word (array_mark v.is_array) (mark_whole v.is_array)))
+    (joined (joined (name v.name h.name) (word (mark_of v.subject) (mark_lacks 10 v.subject (lit≤ tt) refl h.subject)))
     (joined (word (codes " [") refl) (known_whole v.known h.known)))
 
 front_whole : (form : Form) → lacks 10 (front_of form) ≡ true

@@ -1,10 +1,9 @@
 -- What is read of each other line of a report is what the line says.
-use Rattle.std.proofs.Common.{◌≡◌, ℕ, List, [], ◌++◌, drop, refl, sym, ap, ◌∙◌, Bool, true, false, cond, ◌&&◌, Option, Some, None, append_assoc}
+use Rattle.std.proofs.Common.{◌≡◌, ℕ, List, [], ◌++◌, drop, refl, sym, ap, ◌∙◌, Bool, true, false, cond, Option, Some, None, append_assoc}
 use Rattle.std.specs.Prelude.{ℤ, codes}
-use Rattle.std.specs.Option.{option_map, option_and_then}
+use Rattle.std.specs.Option.{option_map}
 use Rattle.std.specs.Fmt.{decimal, signed_decimal}
 use Rattle.std.specs.Cmp.Lexicographic.{same_text}
-use Rattle.std.proofs.lemmas.Bool.{and_parts}
 use Rattle.std.proofs.lemmas.List.{append-nil}
 use Rattle.pk_ctypes.specs.declared.places.Pos.{Pos}
 use Rattle.pk_lex.specs.Bytes.{begins_with, same}
@@ -14,9 +13,11 @@ use Rattle.pk_show.specs.declared.rows.Form.{Form}
 use Rattle.pk_show.specs.declared.rows.Form.TheVariants.{Difference, Sum, NegatedSum}
 use Rattle.pk_show.specs.declared.rows.Counts.{Counts}
 use Rattle.pk_show.specs.declared.rows.Known.{Known}
+use Rattle.pk_show.specs.declared.rows.Subject.{Subject}
+use Rattle.pk_show.specs.declared.rows.Subject.TheVariants.{Scalar, EachElement, Element}
 use Rattle.pk_show.specs.Pieces.{if_true, strip, cut, count_in, signed_in, is_identifier, identifier_in, place_in}
-use Rattle.pk_show.specs.Rows.{OpeningOf, HeadingOf, ValueOf, BoundOf, opening_text, heading_text, no_run_text, value_text, bound_text, counts_text, head_word, array_mark, front_of, sign_of, known_text}
-use Rattle.pk_show.specs.Reading.{opening, heading, known, class_of, value, formed, bound, counts, pair, opening_in, heading_in, array_name_in, class_in, known_in, value_in, form_in, bound_in, access_in, others_in, counts_in}
+use Rattle.pk_show.specs.Rows.{OpeningOf, HeadingOf, ValueOf, BoundOf, opening_text, heading_text, no_run_text, value_text, bound_text, counts_text, head_word, mark_of, front_of, sign_of, known_text}
+use Rattle.pk_show.specs.Reading.{opening, heading, known, class_of, named, value, formed, bound, counts, pair, opening_in, heading_in, element_in, elements_in, array_in, subject_in, class_in, known_in, value_in, form_in, bound_in, access_in, others_in, counts_in}
 use Rattle.pk_show.specs.Reports.{or_else, point_row_in, row_in}
 use Rattle.pk_show.specs.Laws.{row_text}
 use Rattle.pk_show.proofs.PieceLemmas.{strip_told}
@@ -141,45 +142,62 @@ known_told text k e =
     ∙ ap (λ (t : List ℕ). signed_decimal hi.first ++ (codes "] " ++ t)) (class_told h.first.1 class.first class.gave))
     ∙ ap known_text equal
 
-array_name_told : (text : List ℕ) (p : List ℕ × Bool) → array_name_in text ≡ Some p → text ≡ p.0 ++ array_mark p.1
-unfolding array_name_in
-array_name_told text p e = by_name (is_identifier text) e
-  where
-    marked : (q : List ℕ × List ℕ) → cut (codes "[]") text ≡ Some q → if_true (is_identifier q.0 && same q.1 []) (let m : List ℕ × Bool = (q.0, true) in m) ≡ Some p →
-        text ≡ p.0 ++ array_mark p.1
-    marked q c f =
-        let m : List ℕ × Bool = (q.0, true) in
-        let both = passed (is_identifier q.0 && same q.1 []) m p f in
-        let end = and_parts (is_identifier q.0) (same q.1 []) both.0 in
-        cut_told (codes "[]") text q c
-        ∙ ap (λ (l : List ℕ). q.0 ++ (codes "[]" ++ l)) (same_text q.1 [] (sym end.1))
-        ∙ ap (λ (r : List ℕ × Bool). r.0 ++ array_mark r.1) both.1
+element_told : (text : List ℕ) (s : Subject) → element_in text ≡ Some s → codes "[" ++ text ≡ mark_of s
+unfolding element_in
+element_told text s e =
+    let i = steps (cut (codes "]") text) _ s e in
+    let number = steps (count_in i.first.0) _ s i.then_gave in
+    let end = passed (same i.first.1 []) (Element number.first) s number.then_gave in
+    ap (λ (l : List ℕ). codes "[" ++ l) (
+    cut_told (codes "]") text i.first i.gave
+    ∙ ap (λ (l : List ℕ). l ++ (codes "]" ++ i.first.1)) (count_told i.first.0 number.first number.gave)
+    ∙ ap (λ (l : List ℕ). decimal number.first ++ (codes "]" ++ l)) (same_text i.first.1 [] (sym end.0)))
+    ∙ ap mark_of end.1
 
-    by_name : (t : Bool) → cond t (let m : List ℕ × Bool = (text, false) in Some m)
-        (option_and_then (λ q. if_true (is_identifier q.0 && same q.1 []) (let m : List ℕ × Bool = (q.0, true) in m)) (cut (codes "[]") text)) ≡ Some p →
-        text ≡ p.0 ++ array_mark p.1
-    by_name true f =
-        let m : List ℕ × Bool = (text, false) in
-        let equal : m ≡ p = some_same m p f in
-        sym (append-nil text) ∙ ap (λ (r : List ℕ × Bool). r.0 ++ array_mark r.1) equal
-    by_name false f =
-        let s = steps (cut (codes "[]") text) _ p f in
-        marked s.first s.gave s.then_gave
+elements_told : (text : List ℕ) (s : Subject) → elements_in text ≡ Some s → codes "[" ++ text ≡ mark_of s
+unfolding elements_in
+elements_told text s e = by_end (same text (codes "]")) refl e
+  where
+    by_end : (t : Bool) → t ≡ same text (codes "]") → cond t (Some EachElement) (element_in text) ≡ Some s → codes "[" ++ text ≡ mark_of s
+    by_end true is f =
+        let equal : EachElement ≡ s = cc f in
+        ap (λ (l : List ℕ). codes "[" ++ l) (same_text text (codes "]") is) ∙ ap mark_of equal
+    by_end false is f = element_told text s f
+
+array_told : (text : List ℕ) (p : List ℕ × Subject) → array_in text ≡ Some p → text ≡ p.0 ++ mark_of p.1
+unfolding array_in
+array_told text p e =
+    let n = steps (cut (codes "[") text) _ p e in
+    let name = steps (identifier_in n.first.0) _ p n.then_gave in
+    let s = steps (elements_in n.first.1) _ p name.then_gave in
+    let is = passed (is_identifier n.first.0) n.first.0 name.first name.gave in
+    cut_told (codes "[") text n.first n.gave
+    ∙ ap (λ (l : List ℕ). l ++ (codes "[" ++ n.first.1)) is.1
+    ∙ ap (λ (l : List ℕ). name.first ++ l) (elements_told n.first.1 s.first s.gave)
+    ∙ ap (λ (q : List ℕ × Subject). q.0 ++ mark_of q.1) (some_same (named name.first s.first) p s.then_gave)
+
+subject_told : (text : List ℕ) (p : List ℕ × Subject) → subject_in text ≡ Some p → text ≡ p.0 ++ mark_of p.1
+unfolding subject_in
+subject_told text p e = by_name (is_identifier text) e
+  where
+    by_name : (t : Bool) → cond t (Some (named text Scalar)) (array_in text) ≡ Some p → text ≡ p.0 ++ mark_of p.1
+    by_name true f = sym (append-nil text) ∙ ap (λ (q : List ℕ × Subject). q.0 ++ mark_of q.1) (some_same (named text Scalar) p f)
+    by_name false f = array_told text p f
 
 pub value_told : (line : List ℕ) (v : ValueOf) → value_in line ≡ Some v → line ≡ value_text v
 unfolding value_in
 value_told line v e =
     let t = steps (strip (codes "  ") line) _ v e in
     let n = steps (cut (codes " [") t.first) _ v t.then_gave in
-    let name = steps (array_name_in n.first.0) _ v n.then_gave in
+    let name = steps (subject_in n.first.0) _ v n.then_gave in
     let k = steps (known_in n.first.1) _ v name.then_gave in
     let made : ValueOf = value name.first k.first in
     let equal : made ≡ v = some_same made v k.then_gave in
     strip_told (codes "  ") line t.first t.gave
     ∙ ap (λ (l : List ℕ). codes "  " ++ l) (
     cut_told (codes " [") t.first n.first n.gave
-    ∙ ap (λ (l : List ℕ). l ++ (codes " [" ++ n.first.1)) (array_name_told n.first.0 name.first name.gave)
-    ∙ ap (λ (l : List ℕ). (name.first.0 ++ array_mark name.first.1) ++ (codes " [" ++ l)) (known_told n.first.1 k.first k.gave))
+    ∙ ap (λ (l : List ℕ). l ++ (codes " [" ++ n.first.1)) (subject_told n.first.0 name.first name.gave)
+    ∙ ap (λ (l : List ℕ). (name.first.0 ++ mark_of name.first.1) ++ (codes " [" ++ l)) (known_told n.first.1 k.first k.gave))
     ∙ ap value_text equal
 
 -- ---- two variables

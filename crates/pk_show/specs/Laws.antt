@@ -6,6 +6,8 @@ use Rattle.pk_show.specs.declared.rows.Verdict.{Verdict}
 use Rattle.pk_show.specs.declared.rows.Verdict.TheVariants.{Safe, Unknown, Unreachable}
 use Rattle.pk_show.specs.declared.rows.Counts.{Counts}
 use Rattle.pk_show.specs.declared.rows.Known.{Known}
+use Rattle.pk_show.specs.declared.rows.Subject.{Subject}
+use Rattle.pk_show.specs.declared.rows.Subject.TheVariants.{Scalar, EachElement, Element}
 use Rattle.pk_show.specs.declared.report.Row.{Row}
 use Rattle.pk_show.specs.declared.report.Row.TheVariants as row
 use Rattle.pk_show.specs.declared.report.Kind.{Kind}
@@ -52,8 +54,14 @@ pub record IsKnown (k : Known) : Type 0 where
   pub modulus : IsNumber k.modulus
   pub rest : IsNumber k.rest
 
+abbrev pub IsSubject : Subject → Type 0
+IsSubject Scalar = Unit {0}
+IsSubject EachElement = Unit {0}
+IsSubject (Element i) = i < 2 ^ 64
+
 pub record IsValue (v : ValueOf) : Type 0 where
   pub name : is_identifier v.name ≡ true
+  pub subject : IsSubject v.subject
   pub known : IsKnown v.known
 
 pub record IsBound (b : BoundOf) : Type 0 where

@@ -1,5 +1,5 @@
 -- The lines of a report, as they are read.
-use Rattle.std.specs.Prelude.{ℕ, ℤ, ◌&&◌, Bool, true, false, List, [], drop, codes, if◌then◌else◌, Option, Some}
+use Rattle.std.specs.Prelude.{ℕ, ℤ, Bool, List, [], drop, codes, if◌then◌else◌, Option, Some}
 use Rattle.pk_ctypes.specs.declared.faults.Fault.{Fault}
 use Rattle.pk_ctypes.specs.declared.places.Pos.{Pos}
 use Rattle.pk_lex.specs.Bytes.{begins_with, same}
@@ -9,6 +9,8 @@ use Rattle.pk_show.specs.declared.rows.Verdict.{Verdict}
 use Rattle.pk_show.specs.declared.rows.Verdict.TheVariants.{Safe, Unknown, Unreachable}
 use Rattle.pk_show.specs.declared.rows.Counts.{Counts}
 use Rattle.pk_show.specs.declared.rows.Known.{Known}
+use Rattle.pk_show.specs.declared.rows.Subject.{Subject}
+use Rattle.pk_show.specs.declared.rows.Subject.TheVariants.{Scalar, EachElement, Element}
 use Rattle.pk_show.specs.Pieces.{◌>>=◌, if_true, strip, cut, count_in, signed_in, is_identifier, identifier_in, place_in, fault_in}
 use Rattle.pk_show.specs.Rows.{OpeningOf, HeadingOf, ValueOf, BoundOf, AccessOf, head_word}
 
@@ -38,14 +40,30 @@ heading_in is_head line = do
   at ← place_in place.0 place.1
   Some (heading is_head point path.0 at)
 
-abbrev pub named : List ℕ → (is_array : Bool) → List ℕ × Bool
-named name is_array = (name, is_array)
+-- the element whose number stands in the brackets
+unfoldable pub element_in : List ℕ → Option Subject
+element_in text = do
+  i ← cut (codes "]") text
+  number ← count_in i.0
+  if_true (same i.1 []) (Element number)
+
+-- what stands behind a bracket
+unfoldable pub elements_in : List ℕ → Option Subject
+elements_in text = if same text (codes "]") then Some EachElement else element_in text
+
+abbrev pub named : List ℕ → Subject → List ℕ × Subject
+named name subject = (name, subject)
+
+unfoldable pub array_in : List ℕ → Option (List ℕ × Subject)
+array_in text = do
+  n ← cut (codes "[") text
+  name ← identifier_in n.0
+  subject ← elements_in n.1
+  Some (named name subject)
 
 -- a name, or that of an array with its mark
-unfoldable pub array_name_in : List ℕ → Option (List ℕ × Bool)
-array_name_in text =
-    if is_identifier text then Some (named text false) else
-    (cut (codes "[]") text >>= (λ p. if_true (is_identifier p.0 && same p.1 []) (named p.0 true)))
+unfoldable pub subject_in : List ℕ → Option (List ℕ × Subject)
+subject_in text = if is_identifier text then Some (named text Scalar) else array_in text
 
 -- what is known of a number: its range, and its class
 abbrev pub known : ℤ → ℤ → ℤ × ℤ → Known
@@ -70,14 +88,14 @@ known_in text = do
   class ← class_in h.1
   Some (known lo hi class)
 
-abbrev pub value : List ℕ × Bool → Known → ValueOf
-value name known = record { name = name.0; is_array = name.1; known = known }
+abbrev pub value : List ℕ × Subject → Known → ValueOf
+value name known = record { name = name.0; subject = name.1; known = known }
 
 unfoldable pub value_in : List ℕ → Option ValueOf
 value_in line = do
   text ← strip (codes "  ") line
   n ← cut (codes " [") text
-  name ← array_name_in n.0
+  name ← subject_in n.0
   known ← known_in n.1
   Some (value name known)
 

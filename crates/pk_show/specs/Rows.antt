@@ -11,6 +11,8 @@ use Rattle.pk_show.specs.declared.rows.Verdict.{Verdict}
 use Rattle.pk_show.specs.declared.rows.Verdict.TheVariants.{Safe, Unknown, Unreachable}
 use Rattle.pk_show.specs.declared.rows.Counts.{Counts}
 use Rattle.pk_show.specs.declared.rows.Known.{Known}
+use Rattle.pk_show.specs.declared.rows.Subject.{Subject}
+use Rattle.pk_show.specs.declared.rows.Subject.TheVariants.{Scalar, EachElement, Element}
 
 -- the first line
 pub record OpeningOf : Type 0 where
@@ -25,10 +27,10 @@ pub record HeadingOf : Type 0 where
   pub path : List ℕ
   pub at : Pos
 
--- what is known of a variable, or of each element of an array
+-- what is known of a variable, of each element of an array, or of one element
 pub record ValueOf : Type 0 where
   pub name : List ℕ
-  pub is_array : Bool
+  pub subject : Subject
   pub known : Known
 
 -- what is known of two variables
@@ -59,9 +61,11 @@ head_word false = codes "point "
 abbrev pub heading_text : HeadingOf → List ℕ
 heading_text h = head_word h.is_head ++ (decimal h.point ++ (codes " " ++ (h.path ++ (codes " " ++ pos_text h.at))))
 
-abbrev pub array_mark : (is_array : Bool) → List ℕ
-array_mark true = codes "[]"
-array_mark false = []
+-- what stands behind a name
+abbrev pub mark_of : Subject → List ℕ
+mark_of Scalar = []
+mark_of EachElement = codes "[]"
+mark_of (Element i) = codes "[" ++ (decimal i ++ codes "]")
 
 abbrev pub class_text : Known → List ℕ
 class_text k = signed_decimal k.modulus ++ (codes "Z+" ++ signed_decimal k.rest)
@@ -70,7 +74,7 @@ abbrev pub known_text : Known → List ℕ
 known_text k = signed_decimal k.lo ++ (codes "," ++ (signed_decimal k.hi ++ (codes "] " ++ class_text k)))
 
 abbrev pub value_text : ValueOf → List ℕ
-value_text v = codes "  " ++ ((v.name ++ array_mark v.is_array) ++ (codes " [" ++ known_text v.known))
+value_text v = codes "  " ++ ((v.name ++ mark_of v.subject) ++ (codes " [" ++ known_text v.known))
 
 abbrev pub front_of : Form → List ℕ
 front_of Difference = []

@@ -12,4 +12,4 @@ pub use laws::{accesses_are_read, lines_are_read, reports_are_read};
 pub use paths::{Call, Path, read_path, read_place};
 pub use pieces::{count, is_first, is_name, is_part_byte, is_same, signed, strip};
 pub use report::{Kind, ReadError, Row, kind_of, may_stand, next_row, read};
-pub use rows::{Access, Bound, Counts, Form, Heading, Known, Opening, Value, Verdict};
+pub use rows::{Access, Bound, Counts, Form, Heading, Known, Opening, Subject, Value, Verdict};

@@ -2,10 +2,10 @@
 
 ghost use Rattle.std.specs.Prelude.{◌≡◌, MatchOption, None, Some};
 ghost use Rattle.pk_show.specs.Rows.{head_word};
-ghost use Rattle.pk_show.specs.Reading.{opening_in, heading_in, array_name_in, value_in, form_in, bound_in, unknown_in, verdict_in, access_in, others_in, counts_in, class_in, known_in};
+ghost use Rattle.pk_show.specs.Reading.{opening_in, heading_in, element_in, elements_in, array_in, subject_in, value_in, form_in, bound_in, unknown_in, verdict_in, access_in, others_in, counts_in, class_in, known_in};
 
 use crate::pieces::{count, cut, fault, is_first, is_name, is_same, place, signed, strip};
-use crate::rows::{Access, Bound, Counts, Form, Heading, Known, Opening, Value, Verdict};
+use crate::rows::{Access, Bound, Counts, Form, Heading, Known, Opening, Subject, Value, Verdict};
 
 /// The first line that a line is.
 #[tactic(auto, unfolding(crate::specs::Reading::opening_in))]
@@ -130,19 +130,54 @@ pub(crate) fn counts(line: &[u8]) -> Option<Counts>
     })
 }
 
-// A name, or that of an array with its mark.
-#[tactic(auto, unfolding(crate::specs::Reading::array_name_in))]
-fn array_name(text: &[u8]) -> Option<(&[u8], bool)>
-    ensures { MatchOption result (array_name_in text.now ≡ None) (λ p. array_name_in text.now ≡ Some (p.0.now, p.1)) }
+// The element whose number stands in the brackets.
+#[tactic(auto, unfolding(crate::specs::Reading::element_in))]
+fn element(text: &[u8]) -> Option<Subject>
+    ensures { result ≡ element_in text.now }
 {
-    if is_name(text) {
-        return Some((text, false));
-    }
-    let (name, rest) = cut(text, b"[]")?;
-    if is_name(name) && is_same(rest, b"") {
-        Some((name, true))
+    let (number, rest) = cut(text, b"]")?;
+    let number = count(number)?;
+    if is_same(rest, b"") {
+        Some(Subject::Element(number))
     } else {
         None
+    }
+}
+
+// What stands behind a bracket.
+#[tactic(auto, unfolding(crate::specs::Reading::elements_in))]
+fn elements(text: &[u8]) -> Option<Subject>
+    ensures { result ≡ elements_in text.now }
+{
+    if is_same(text, b"]") {
+        Some(Subject::EachElement)
+    } else {
+        element(text)
+    }
+}
+
+#[tactic(auto, unfolding(crate::specs::Reading::array_in))]
+fn array(text: &[u8]) -> Option<(&[u8], Subject)>
+    ensures { MatchOption result (array_in text.now ≡ None) (λ p. array_in text.now ≡ Some (p.0.now, p.1)) }
+{
+    let (name, rest) = cut(text, b"[")?;
+    if is_name(name) {
+        let subject = elements(rest)?;
+        Some((name, subject))
+    } else {
+        None
+    }
+}
+
+// A name, or that of an array with its mark.
+#[tactic(auto, unfolding(crate::specs::Reading::subject_in))]
+fn subject(text: &[u8]) -> Option<(&[u8], Subject)>
+    ensures { MatchOption result (subject_in text.now ≡ None) (λ p. subject_in text.now ≡ Some (p.0.now, p.1)) }
+{
+    if is_name(text) {
+        Some((text, Subject::Scalar))
+    } else {
+        array(text)
     }
 }
 
@@ -173,18 +208,18 @@ fn known(text: &[u8]) -> Option<Known>
     })
 }
 
-/// The line of a variable.
+/// The line of values that a line is.
 #[tactic(auto, unfolding(crate::specs::Reading::value_in))]
 pub(crate) fn value(line: &[u8]) -> Option<Value<'_>>
     ensures { result ≡ value_in line.now }
 {
     let text = strip(line, b"  ")?;
     let (name, text) = cut(text, b" [")?;
-    let (name, is_array) = array_name(name)?;
+    let (name, subject) = subject(name)?;
     let known = known(text)?;
     Some(Value {
         name,
-        is_array,
+        subject,
         known,
     })
 }

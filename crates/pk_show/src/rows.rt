@@ -45,11 +45,19 @@ pub struct Known {
     pub rest: i128,
 }
 
-/// What is known of a variable, or of each element of an array.
+/// What a line of values tells of: a variable, each element of an array, or one element by its number.
+#[derive(Clone, Copy)]
+pub enum Subject {
+    Scalar,
+    EachElement,
+    Element(u64),
+}
+
+/// What is known of a variable, of each element of an array, or of one element.
 #[derive(Drop)]
 pub struct Value<'t> {
     pub name: &'t [u8],
-    pub is_array: bool,
+    pub subject: Subject,
     pub known: Known,
 }
 
@@ -58,7 +66,7 @@ impl<'t> Model for Value<'t> {
 
     ghost Value = { ValueOf };
 
-    ghost view = { λ v. record { name = v.name.now; is_array = v.is_array; known = v.known } };
+    ghost view = { λ v. record { name = v.name.now; subject = v.subject; known = v.known } };
 }
 
 /// What stands to the left of a bound: x - y, x + y or -x - y.

@@ -1,5 +1,5 @@
 -- Each row of the report on a graph is one that is read.
-use Rattle.std.proofs.Common.{subst, ◌≡◌, ◌<◌, ◌+◌, ◌^◌, ◌*◌, ℕ, refl, sym, ap, ◌∙◌, List, [], ◌∷◌, ◌++◌, length, reverse, Bool, true, false, cond, Option, Some, None, arith}
+use Rattle.std.proofs.Common.{subst, ◌≡◌, ◌<◌, ◌+◌, ◌^◌, ◌*◌, ℕ, refl, sym, ap, ◌∙◌, List, [], ◌∷◌, ◌++◌, length, map, reverse, Bool, true, false, cond, Option, Some, None, arith}
 use Rattle.std.specs.Prelude.{ℤ, pos, ◌+ℤ◌, ◌-ℤ◌, All, int_lt, is_some, not, unwrap_or, slice_index_or, count_by, ◌||◌}
 use Rattle.std.specs.Option.{option_map}
 use Rattle.std.specs.List.{filter, flat_map, filter_map, cons_option, range_with_len, zip}
@@ -14,10 +14,10 @@ use Rattle.pk_graph.specs.Graphs.{VariableOf, GraphOf, point_at, variable_at}
 use Rattle.pk_graph.specs.Visible.{Names, with_name, is_new, is_shown, name_at, not_hidden, no_name, is_of_file, visible_at}
 use Rattle.pk_octmat.specs.Octagon.{entry}
 use Rattle.pk_value.specs.Known.{Known}
-use Rattle.pk_state.specs.Layouts.{Layout, place_in}
+use Rattle.pk_state.specs.Layouts.{Layout, is_spread, slot_of, place_in}
 use Rattle.pk_state.specs.Facts.{Facts, Stated, known_at}
 use Rattle.pk_report.specs.Paths.{path_text}
-use Rattle.pk_report.specs.Values.{name_of, placed_in, placed, bounds_of}
+use Rattle.pk_report.specs.Values.{name_of, numbers_of, placed_in, placed, bounds_of}
 use Rattle.pk_report.specs.Reports.{is_head, state_at, is_safe, is_unknown, is_unreachable}
 use Rattle.pk_show.specs.Pieces.{lacks, is_identifier}
 use Rattle.pk_show.specs.declared.report.Row.{Row}
@@ -25,9 +25,9 @@ use Rattle.pk_show.specs.declared.report.Row.TheVariants as row
 use Rattle.pk_show.specs.declared.rows.Form.{Form}
 use Rattle.pk_show.specs.declared.rows.Form.TheVariants.{Difference, Sum, NegatedSum}
 use Rattle.pk_show.specs.Rows.{BoundOf}
-use Rattle.pk_show.specs.Laws.{IsNumber, IsBound, TellsPath, IsRow, LinesAreRead}
-use Rattle.pk_show_laws.specs.ReportRows.{heading_of, value_of, bound_of, bounds_if, bounds_told, pair_bounds, of_pairs, bounds_at, values_rows, bounds_rows, facts_rows, point_rows, told_rows, access_of, opening_of, counts_of, accesses_rows, report_rows}
-use Rattle.pk_show_laws.specs.Tellable.{IsName, IsTellableGraph, AreTellableFacts, AreTellable, IsTellableAccess, IsTellable}
+use Rattle.pk_show.specs.Laws.{IsNumber, IsSubject, IsValue, IsBound, TellsPath, IsRow, LinesAreRead}
+use Rattle.pk_show_laws.specs.ReportRows.{heading_of, subject_of, whole_value, element_value, values_of, values_at, bound_of, bounds_if, bounds_told, pair_bounds, of_pairs, bounds_at, values_rows, bounds_rows, facts_rows, point_rows, told_rows, access_of, opening_of, counts_of, accesses_rows, report_rows}
+use Rattle.pk_show_laws.specs.Tellable.{IsName, IsTellableGraph, IsTellableLayout, AreTellableFacts, AreTellable, IsTellableAccess, IsTellable}
 use Rattle.pk_show_laws.proofs.PathLemmas.{paths_tell}
 
 one_word : (lines : LinesAreRead) (text : List ℕ) → TellsPath text → lacks 32 text ≡ true
@@ -136,18 +136,18 @@ placed_named g l xs all =
     subst (HasName g) (ap (λ q. q.variable) from.1) hx)
     xs all
 
-flat_all : {A : Type 0} (P : A → Type 0) (bounds : A → List BoundOf) → ((q : A) → P q → All IsBound (bounds q)) → (ps : List A) → All P ps →
-    All IsBound (flat_map bounds ps)
-flat_all P bounds each [] all = All-nil IsBound
-flat_all P bounds each (q ∷ ps) all =
-    All-append IsBound (bounds q) (flat_map bounds ps) (each q (All-head P q ps all)) (flat_all P bounds each ps (All-tail P q ps all))
+flat_all : {A B : Type 0} (P : A → Type 0) (Q : B → Type 0) (items : A → List B) → ((q : A) → P q → All Q (items q)) → (ps : List A) → All P ps →
+    All Q (flat_map items ps)
+flat_all P Q items each [] all = All-nil Q
+flat_all P Q items each (q ∷ ps) all =
+    All-append Q (items q) (flat_map items ps) (each q (All-head P q ps all)) (flat_all P Q items each ps (All-tail P q ps all))
 
 pairs_all : {A : Type 0} (P : A → Type 0) (bounds : A → A → List BoundOf) → ((p q : A) → P p → P q → All IsBound (bounds p q)) → (ps : List A) →
     All P ps → All IsBound (of_pairs ps bounds)
 pairs_all P bounds each [] all = All-nil IsBound
 pairs_all P bounds each (p ∷ ps) all =
     All-append IsBound (flat_map (bounds p) ps) (of_pairs ps bounds)
-    (flat_all P (bounds p) (λ q. each p q (All-head P p ps all)) ps (All-tail P p ps all))
+    (flat_all P IsBound (bounds p) (λ q. each p q (All-head P p ps all)) ps (All-tail P p ps all))
     (pairs_all P bounds each ps (All-tail P p ps all))
 
 bounds_are : (g : GraphOf) (f : Facts) (l : Layout) (xs : List ℕ) → AreTellableFacts f → All (HasName g) xs → All IsBound (bounds_at g f l xs)
@@ -156,20 +156,41 @@ bounds_are g f l xs h all =
 
 -- ---- a point
 
-values_all : (g : GraphOf) (f : Facts) → AreTellableFacts f → (xs : List ℕ) → All (HasName g) xs → All IsRow (values_rows g f xs)
-values_all g f h xs all =
-    All-map IsRow (λ x. row.Value (value_of g f x)) xs
-    (λ k d l. record { name = all k d l; known = h.values (slice_index_or xs k d) })
+below : (n : ℕ) → All (λ v. v < n) (range_with_len 0 n)
+below n k d l =
+    let less : k < n = omega (arith, l, length-range_with_len 0 n) in
+    let same = get_or-range_with_len 0 n k d less in
+    subst (λ (v : ℕ). v < n) (sym same) (omega (arith, less))
 
-facts_all : (g : GraphOf) (l : Layout) (f : Option Facts) → AreTellable f → (xs : List ℕ) → All (HasName g) xs → All IsRow (facts_rows g l f xs)
-facts_all g l None h xs all = All-cons IsRow row.NoRun [] tt (All-nil IsRow)
-facts_all g l (Some f) h xs all =
-    All-append IsRow (values_rows g f xs) (bounds_rows g f l xs) (values_all g f h xs all)
+whole_subject : (length : Option ℕ) → IsSubject (subject_of length)
+whole_subject None = tt
+whole_subject (Some n) = tt
+
+values_are : (g : GraphOf) (l : Layout) (f : Facts) → IsTellableLayout g l → AreTellableFacts f → (x : ℕ) → HasName g x → All IsValue (values_of g l f x)
+values_are g l f told h x named = by_slots (is_spread l x) refl
+  where
+    by_slots : (t : Bool) → is_spread l x ≡ t → All IsValue (cond t (map (element_value g l f x) (range_with_len 0 (numbers_of g x))) (whole_value g f x ∷ []))
+    by_slots true e =
+        All-map IsValue (element_value g l f x) (range_with_len 0 (numbers_of g x)) (λ k d there.
+        let few = told.few x e in
+        let less = below (numbers_of g x) k d there in
+        record { name = named; subject = omega (arith, few, less); known = h.values (slot_of l x (slice_index_or (range_with_len 0 (numbers_of g x)) k d)) })
+    by_slots false e =
+        All-cons IsValue (whole_value g f x) [] (record { name = named; subject = whole_subject (variable_at g x).kind.length; known = h.values x }) (All-nil IsValue)
+
+values_all : (g : GraphOf) (l : Layout) (f : Facts) → IsTellableLayout g l → AreTellableFacts f → (xs : List ℕ) → All (HasName g) xs → All IsRow (values_rows g l f xs)
+values_all g l f told h xs all =
+    All-map IsRow row.Value (values_at g l f xs) (flat_all (HasName g) IsValue (values_of g l f) (values_are g l f told h) xs all)
+
+facts_all : (g : GraphOf) (l : Layout) (f : Option Facts) → IsTellableLayout g l → AreTellable f → (xs : List ℕ) → All (HasName g) xs → All IsRow (facts_rows g l f xs)
+facts_all g l None told h xs all = All-cons IsRow row.NoRun [] tt (All-nil IsRow)
+facts_all g l (Some f) told h xs all =
+    All-append IsRow (values_rows g l f xs) (bounds_rows g f l xs) (values_all g l f told h xs all)
     (All-map IsRow row.Bound (bounds_at g f l xs) (bounds_are g f l xs h all))
 
-point_all : (lines : LinesAreRead) (g : GraphOf) (s : Stated) (is_head : Bool) (v : ℕ) → IsTellableGraph g → AreTellable s.facts →
+point_all : (lines : LinesAreRead) (g : GraphOf) (s : Stated) (is_head : Bool) (v : ℕ) → IsTellableGraph g → IsTellableLayout g s.layout → AreTellable s.facts →
     v < length g.points → All IsRow (point_rows g s is_head v)
-point_all lines g s is_head v h facts l =
+point_all lines g s is_head v h told facts l =
     let path = (paths_tell g h (point_at g v).path (h.point_paths v l)).path in
     All-cons IsRow (row.Heading (heading_of g is_head v)) (facts_rows g s.layout s.facts (visible_at g v)) (
       record {
@@ -179,14 +200,15 @@ point_all lines g s is_head v h facts l =
       },
       path,
     )
-    (facts_all g s.layout s.facts facts (visible_at g v) (visible_named g v h))
+    (facts_all g s.layout s.facts told facts (visible_at g v) (visible_named g v h))
 
 told_all : (lines : LinesAreRead) (all : Bool) (g : GraphOf) (heads : List ℕ) (states : List Stated) (v : ℕ) → IsTellableGraph g →
-    ((v : ℕ) → AreTellable (state_at states v).facts) → v < length g.points → All IsRow (told_rows all g heads states v)
-told_all lines all g heads states v h facts l = by_test (is_head heads v || all)
+    ((v : ℕ) → IsTellableLayout g (state_at states v).layout) → ((v : ℕ) → AreTellable (state_at states v).facts) → v < length g.points →
+    All IsRow (told_rows all g heads states v)
+told_all lines all g heads states v h told facts l = by_test (is_head heads v || all)
   where
     by_test : (t : Bool) → All IsRow (cond t (point_rows g (state_at states v) (is_head heads v) v) [])
-    by_test true = point_all lines g (state_at states v) (is_head heads v) v h (facts v) l
+    by_test true = point_all lines g (state_at states v) (is_head heads v) v h (told v) (facts v) l
     by_test false = All-nil IsRow
 
 flat_rows_all : {A : Type 0} (rows : A → List Row) (xs : List A) → All (λ a. All IsRow (rows a)) xs → All IsRow (flat_map rows xs)
@@ -194,12 +216,6 @@ flat_rows_all rows [] all = All-nil IsRow
 flat_rows_all rows (a ∷ xs) all =
     All-append IsRow (rows a) (flat_map rows xs) (All-head (λ a. All IsRow (rows a)) a xs all)
     (flat_rows_all rows xs (All-tail (λ a. All IsRow (rows a)) a xs all))
-
-below : (n : ℕ) → All (λ v. v < n) (range_with_len 0 n)
-below n k d l =
-    let less : k < n = omega (arith, l, length-range_with_len 0 n) in
-    let same = get_or-range_with_len 0 n k d less in
-    subst (λ (v : ℕ). v < n) (sym same) (omega (arith, less))
 
 -- ---- accesses
 
@@ -232,7 +248,7 @@ rows_all lines all g heads elements states accesses verdicts h =
     })
     (All-append IsRow points (rows ++ last)
     (flat_rows_all (told_rows all g heads states) (range_with_len 0 (length g.points))
-    (λ k d l. told_all lines all g heads states (slice_index_or (range_with_len 0 (length g.points)) k d) h.graph h.facts (below (length g.points) k d l)))
+    (λ k d l. told_all lines all g heads states (slice_index_or (range_with_len 0 (length g.points)) k d) h.graph h.layouts h.facts (below (length g.points) k d l)))
     (All-append IsRow rows last (accesses_all lines g (zip accesses verdicts) h.graph h.each)
     (All-cons IsRow (row.Counts (counts_of verdicts)) []
     (record {

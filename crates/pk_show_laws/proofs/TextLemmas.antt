@@ -1,10 +1,10 @@
 -- The text of a report is that of its rows, each on its line.
 use Rattle.std.proofs.Common.{◌≡◌, ℕ, List, [], ◌∷◌, ◌++◌, length, map, refl, sym, ap, ◌∙◌, Bool, true, false, cond, Option, Some, None, append_assoc}
-use Rattle.std.specs.Prelude.{ℤ, codes, int_lt, is_some, count_by, ◌||◌}
+use Rattle.std.specs.Prelude.{ℤ, codes, int_lt, count_by, ◌||◌}
 use Rattle.std.specs.Fmt.{decimal, signed_decimal}
 use Rattle.std.specs.List.{flat_map, range_with_len, zip}
 use Rattle.std.proofs.lemmas.Grind.{flat_map-append}
-use Rattle.std.proofs.lemmas.List.{append-nil}
+use Rattle.std.proofs.lemmas.List.{append-nil, map-append}
 use Rattle.pk_ctypes.specs.Places.{pos_text}
 use Rattle.pk_ctypes.specs.Words.{fault_text}
 use Rattle.pk_graph.specs.declared.verdicts.Verdict.{Verdict}
@@ -13,7 +13,7 @@ use Rattle.pk_graph.specs.Accesses.{AccessOf, fault_of}
 use Rattle.pk_graph.specs.Graphs.{PathOf, GraphOf, point_at, variable_at}
 use Rattle.pk_graph.specs.Visible.{visible_at}
 use Rattle.pk_value.specs.Known.{Known}
-use Rattle.pk_state.specs.Layouts.{Layout}
+use Rattle.pk_state.specs.Layouts.{Layout, is_spread, slot_of}
 use Rattle.pk_octmat.specs.Octagon.{entry}
 use Rattle.pk_state.specs.Facts.{Facts, Stated, known_at}
 use Rattle.pk_report.specs.Paths.{path_text}
@@ -23,9 +23,9 @@ use Rattle.pk_show.specs.declared.report.Row.{Row}
 use Rattle.pk_show.specs.declared.report.Row.TheVariants as row
 use Rattle.pk_show.specs.declared.rows.Form.{Form}
 use Rattle.pk_show.specs.declared.rows.Form.TheVariants.{Difference, Sum, NegatedSum}
-use Rattle.pk_show.specs.Rows.{BoundOf, verdict_text, head_word, array_mark, front_of, sign_of}
+use Rattle.pk_show.specs.Rows.{BoundOf, verdict_text, head_word, mark_of, known_text, front_of, sign_of}
 use Rattle.pk_show.specs.Laws.{row_text, rows_text}
-use Rattle.pk_show_laws.specs.ReportRows.{heading_of, value_of, bound_of, bounds_if, bounds_told, pair_bounds, of_pairs, bounds_at, values_rows, bounds_rows, facts_rows, point_rows, told_rows, verdict_of, access_of, opening_of, counts_of, accesses_rows, report_rows}
+use Rattle.pk_show_laws.specs.ReportRows.{heading_of, known_of, subject_of, whole_value, element_value, values_of, values_at, bound_of, bounds_if, bounds_told, pair_bounds, of_pairs, bounds_at, values_rows, bounds_rows, facts_rows, point_rows, told_rows, verdict_of, access_of, opening_of, counts_of, accesses_rows, report_rows}
 
 abbrev line : Row → List ℕ
 line r = row_text r ++ codes "\n"
@@ -66,13 +66,45 @@ value_parts : (a name mark b lo c hi d m z r n : List ℕ) →
     (a ++ ((name ++ mark) ++ (b ++ (lo ++ (c ++ (hi ++ (d ++ (m ++ (z ++ r))))))))) ++ n
 value_parts a name mark b lo c hi d m z r n = simp append_assoc
 
-value_line : (name : List ℕ) (is_array : Bool) (lo hi m r : List ℕ) →
-    codes "  " ++ name ++ written.brackets is_array ++ (codes " [" ++ lo ++ codes "," ++ hi ++ codes "] ") ++ (m ++ codes "Z+" ++ r ++ codes "\n") ≡
-    (codes "  " ++ ((name ++ array_mark is_array) ++ (codes " [" ++ (lo ++ (codes "," ++ (hi ++ (codes "] " ++ (m ++ (codes "Z+" ++ r))))))))) ++ codes "\n"
-value_line name true lo hi m r =
-    value_parts (codes "  ") name (codes "[]") (codes " [") lo (codes ",") hi (codes "] ") m (codes "Z+") r (codes "\n")
-value_line name false lo hi m r =
-    value_parts (codes "  ") name [] (codes " [") lo (codes ",") hi (codes "] ") m (codes "Z+") r (codes "\n")
+value_line : (name mark told : List ℕ) (k : Known) → mark ≡ told →
+    codes "  " ++ name ++ mark ++ written.range_text k.range ++ written.class_text k.class ≡ (codes "  " ++ ((name ++ told) ++ (codes " [" ++ known_text (known_of k)))) ++ codes "\n"
+value_line name mark told k e =
+    value_parts (codes "  ") name mark (codes " [") (signed_decimal k.range.lo) (codes ",") (signed_decimal k.range.hi) (codes "] ") (signed_decimal k.class.m) (codes "Z+")
+    (signed_decimal k.class.r) (codes "\n")
+    ∙ ap (λ (l : List ℕ). (codes "  " ++ ((name ++ l) ++ (codes " [" ++ known_text (known_of k)))) ++ codes "\n") e
+
+whole_mark : (length : Option ℕ) → written.mark_of (written.subject_of length) ≡ mark_of (subject_of length)
+whole_mark None = refl
+whole_mark (Some n) = refl
+
+element_mark : (i : ℕ) → codes "[" ++ decimal i ++ codes "]" ≡ codes "[" ++ (decimal i ++ codes "]")
+element_mark i = append_assoc (codes "[") (decimal i) (codes "]")
+
+elements_lines : (g : GraphOf) (l : Layout) (f : Facts) (x : ℕ) (is : List ℕ) →
+    flat_map (written.element_line g l f x) is ≡ rows_text (map row.Value (map (element_value g l f x) is))
+elements_lines g l f x [] = refl
+elements_lines g l f x (i ∷ is) =
+    ap (λ (a : List ℕ). a ++ flat_map (written.element_line g l f x) is)
+    (value_line (written.name_of g x) (codes "[" ++ decimal i ++ codes "]") (codes "[" ++ (decimal i ++ codes "]")) (known_at f.values (slot_of l x i)) (element_mark i))
+    ∙ ap (λ (a : List ℕ). line (row.Value (element_value g l f x i)) ++ a) (elements_lines g l f x is)
+
+value_lines : (g : GraphOf) (l : Layout) (f : Facts) (x : ℕ) → written.value_lines g l f x ≡ rows_text (map row.Value (values_of g l f x))
+value_lines g l f x = by_slots (is_spread l x)
+  where
+    by_slots : (t : Bool) → cond t (flat_map (written.element_line g l f x) (range_with_len 0 (written.numbers_of g x))) (written.whole_line g f x) ≡
+        rows_text (map row.Value (cond t (map (element_value g l f x) (range_with_len 0 (written.numbers_of g x))) (whole_value g f x ∷ [])))
+    by_slots true = elements_lines g l f x (range_with_len 0 (written.numbers_of g x))
+    by_slots false =
+        let length = (variable_at g x).kind.length in
+        value_line (written.name_of g x) (written.mark_of (written.subject_of length)) (mark_of (subject_of length)) (known_at f.values x) (whole_mark length)
+        ∙ sym (append-nil (line (row.Value (whole_value g f x))))
+
+values_lines : (g : GraphOf) (l : Layout) (f : Facts) (xs : List ℕ) → flat_map (written.value_lines g l f) xs ≡ rows_text (values_rows g l f xs)
+values_lines g l f [] = refl
+values_lines g l f (x ∷ xs) =
+    both_parts (written.value_lines g l f x) (flat_map (written.value_lines g l f) xs) (map row.Value (values_of g l f x)) (values_rows g l f xs)
+    (value_lines g l f x) (values_lines g l f xs)
+    ∙ ap rows_text (sym (map-append row.Value (values_of g l f x) (values_at g l f xs)))
 
 -- ---- two variables
 
@@ -138,12 +170,7 @@ pairs_lines g f l xs =
 facts_lines : (g : GraphOf) (l : Layout) (f : Option Facts) (xs : List ℕ) → written.facts_lines g l f xs ≡ rows_text (facts_rows g l f xs)
 facts_lines g l None xs = refl
 facts_lines g l (Some f) xs =
-    both_parts _ _ (values_rows g f xs) (bounds_rows g f l xs)
-    (one_by_one (written.value_line g f) (λ x. row.Value (value_of g f x)) (λ x.
-    let k = known_at f.values x in
-    value_line (written.name_of g x) (is_some (variable_at g x).kind.length) (signed_decimal k.range.lo) (signed_decimal k.range.hi)
-    (signed_decimal k.class.m) (signed_decimal k.class.r)) xs)
-    (pairs_lines g f l xs ∙ bounds_lines (bounds_at g f l xs))
+    both_parts _ _ (values_rows g l f xs) (bounds_rows g f l xs) (values_lines g l f xs) (pairs_lines g f l xs ∙ bounds_lines (bounds_at g f l xs))
 
 point_lines : (g : GraphOf) (s : Stated) (is_head : Bool) (v : ℕ) → reports.point_lines g s is_head v ≡ rows_text (point_rows g s is_head v)
 point_lines g s is_head v =

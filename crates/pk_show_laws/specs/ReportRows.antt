@@ -1,5 +1,5 @@
 -- The rows of the report on a graph.
-use Rattle.std.specs.Prelude.{ℕ, pos, ◌+ℤ◌, ◌-ℤ◌, ℤ, int_lt, Bool, ◌||◌, is_some, if◌then◌else◌, List, [], ◌∷◌, ◌++◌, length, map, count_by, Option, Some, None}
+use Rattle.std.specs.Prelude.{ℕ, pos, ◌+ℤ◌, ◌-ℤ◌, ℤ, int_lt, Bool, ◌||◌, if◌then◌else◌, List, [], ◌∷◌, ◌++◌, length, map, count_by, Option, Some, None}
 use Rattle.std.specs.List.{flat_map, range_with_len, zip}
 use Rattle.pk_graph.specs.declared.verdicts.Verdict.{Verdict}
 use Rattle.pk_graph.specs.declared.verdicts.Verdict.TheVariants.{Safe, Unknown, Unreachable}
@@ -8,10 +8,10 @@ use Rattle.pk_graph.specs.Graphs.{PathOf, GraphOf, point_at, variable_at}
 use Rattle.pk_graph.specs.Visible.{visible_at}
 use Rattle.pk_value.specs.Known.{Known}
 use Rattle.pk_octmat.specs.Octagon.{entry}
-use Rattle.pk_state.specs.Layouts.{Layout}
+use Rattle.pk_state.specs.Layouts.{Layout, is_spread, slot_of}
 use Rattle.pk_state.specs.Facts.{Facts, Stated, known_at}
 use Rattle.pk_report.specs.Paths.{path_text}
-use Rattle.pk_report.specs.Values.{name_of, placed, bounds_of}
+use Rattle.pk_report.specs.Values.{name_of, numbers_of, placed, bounds_of}
 use Rattle.pk_report.specs.Reports.{is_head, state_at, is_safe, is_unknown, is_unreachable}
 use Rattle.pk_show.specs.declared.report.Row.{Row}
 use Rattle.pk_show.specs.declared.report.Row.TheVariants as row
@@ -19,6 +19,8 @@ use Rattle.pk_show.specs.declared.rows.Form.{Form}
 use Rattle.pk_show.specs.declared.rows.Form.TheVariants.{Difference, Sum, NegatedSum}
 use Rattle.pk_show.specs.declared.rows.Counts.{Counts}
 use Rattle.pk_show.specs.declared.rows.Known.{Known as KnownRow}
+use Rattle.pk_show.specs.declared.rows.Subject.{Subject}
+use Rattle.pk_show.specs.declared.rows.Subject.TheVariants.{Scalar, EachElement, Element}
 use Rattle.pk_show.specs.declared.rows.Verdict.{Verdict as VerdictRow}
 use Rattle.pk_show.specs.declared.rows.Verdict.TheVariants as told
 use Rattle.pk_show.specs.Rows.{OpeningOf, HeadingOf, ValueOf, BoundOf, AccessOf as AccessRow}
@@ -32,13 +34,24 @@ heading_of g is_head v =
 abbrev pub known_of : Known → KnownRow
 known_of k = record { lo = k.range.lo; hi = k.range.hi; modulus = k.class.m; rest = k.class.r }
 
-abbrev pub value_of : GraphOf → Facts → ℕ → ValueOf
-value_of g f x =
-    record {
-      name = name_of g x;
-      is_array = is_some (variable_at g x).kind.length;
-      known = known_of (known_at f.values x);
-    }
+abbrev pub value_of : (name : List ℕ) → Subject → Known → ValueOf
+value_of name s k = record { name = name; subject = s; known = known_of k }
+
+abbrev pub subject_of : (length : Option ℕ) → Subject
+subject_of None = Scalar
+subject_of (Some n) = EachElement
+
+abbrev pub whole_value : GraphOf → Facts → ℕ → ValueOf
+whole_value g f x = value_of (name_of g x) (subject_of (variable_at g x).kind.length) (known_at f.values x)
+
+abbrev pub element_value : GraphOf → Layout → Facts → ℕ → ℕ → ValueOf
+element_value g l f x i = value_of (name_of g x) (Element i) (known_at f.values (slot_of l x i))
+
+-- one for each number of a variable, if each has a slot, else one for the variable
+abbrev pub values_of : GraphOf → Layout → Facts → ℕ → List ValueOf
+values_of g l f x =
+    if is_spread l x then map (element_value g l f x) (range_with_len 0 (numbers_of g x))
+    else whole_value g f x ∷ []
 
 abbrev pub bound_of : Form → (left right : List ℕ) → ℤ → BoundOf
 bound_of form left right c = record { form = form; left = left; right = right; most = c }
@@ -71,15 +84,18 @@ of_pairs (p ∷ ps) bounds = flat_map (bounds p) ps ++ of_pairs ps bounds
 abbrev pub bounds_at : GraphOf → Facts → Layout → List ℕ → List BoundOf
 bounds_at g f l xs = of_pairs (placed l xs) (λ p q. pair_bounds g f p.variable p.place q.variable q.place)
 
-abbrev pub values_rows : GraphOf → Facts → List ℕ → List Row
-values_rows g f = map (λ x. row.Value (value_of g f x))
+abbrev pub values_at : GraphOf → Layout → Facts → List ℕ → List ValueOf
+values_at g l f = flat_map (values_of g l f)
+
+abbrev pub values_rows : GraphOf → Layout → Facts → List ℕ → List Row
+values_rows g l f xs = map row.Value (values_at g l f xs)
 
 abbrev pub bounds_rows : GraphOf → Facts → Layout → List ℕ → List Row
 bounds_rows g f l xs = map row.Bound (bounds_at g f l xs)
 
 abbrev pub facts_rows : GraphOf → Layout → Option Facts → List ℕ → List Row
 facts_rows g l None xs = row.NoRun ∷ []
-facts_rows g l (Some f) xs = values_rows g f xs ++ bounds_rows g f l xs
+facts_rows g l (Some f) xs = values_rows g l f xs ++ bounds_rows g f l xs
 
 abbrev pub point_rows : GraphOf → Stated → (is_head : Bool) → ℕ → List Row
 point_rows g s is_head v = row.Heading (heading_of g is_head v) ∷ facts_rows g s.layout s.facts (visible_at g v)

@@ -1,5 +1,5 @@
 -- What can be told in a report: names that are identifiers, places and numbers in range.
-use Rattle.std.specs.Prelude.{◌≡◌, ℕ, ℤ, ◌<◌, ◌^◌, true, List, length, All, Option, Some, None}
+use Rattle.std.specs.Prelude.{◌≡◌, ℕ, ℤ, ◌<◌, ◌^◌, true, false, List, length, All, Option, Some, None}
 use Rattle.std.specs.List.{zip}
 use Rattle.pk_graph.specs.declared.trees.Site.{Site}
 use Rattle.pk_graph.specs.declared.verdicts.Verdict.{Verdict}
@@ -7,7 +7,9 @@ use Rattle.pk_graph.specs.Accesses.{AccessOf}
 use Rattle.pk_graph.specs.Graphs.{PathOf, GraphOf, point_at, variable_at}
 use Rattle.pk_octmat.specs.Octagon.{entry}
 use Rattle.pk_state.specs.Facts.{Facts, Stated, known_at}
+use Rattle.pk_state.specs.Layouts.{Layout, is_spread, place_in}
 use Rattle.pk_report.specs.Paths.{path_at}
+use Rattle.pk_report.specs.Values.{numbers_of}
 use Rattle.pk_report.specs.Reports.{state_at}
 use Rattle.pk_show.specs.Pieces.{is_identifier}
 use Rattle.pk_show.specs.Laws.{IsNumber, IsPlace, IsVerdict, IsKnown}
@@ -49,6 +51,11 @@ abbrev pub AreTellable : Option Facts → Type 0
 AreTellable None = Unit {0}
 AreTellable (Some f) = AreTellableFacts f
 
+-- elements that are told have numbers in range, and the octagon is over no variable of which elements are told
+pub record IsTellableLayout (g : GraphOf) (l : Layout) : Type 0 where
+  pub few : (x : ℕ) → is_spread l x ≡ true → numbers_of g x < 2 ^ 64
+  pub apart : (x k : ℕ) → place_in l.chosen x ≡ Some k → is_spread l x ≡ false
+
 pub record IsTellableAccess (g : GraphOf) (a : AccessOf × Verdict) : Type 0 where
   pub path : a.0.site.path < length g.paths
   pub at : IsPlace a.0.site.at
@@ -58,6 +65,7 @@ pub record IsTellable (g : GraphOf) (elements : ℕ) (states : List Stated) (acc
     (verdicts : List Verdict) : Type 0 where
   pub graph : IsTellableGraph g
   pub elements_few : elements < 2 ^ 64
+  pub layouts : (v : ℕ) → IsTellableLayout g (state_at states v).layout
   pub facts : (v : ℕ) → AreTellable (state_at states v).facts
   pub each : All (IsTellableAccess g) (zip accesses verdicts)
   pub verdicts_few : length verdicts < 2 ^ 64

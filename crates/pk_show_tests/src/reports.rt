@@ -121,6 +121,8 @@ result safe 11 unknown 0 unreachable 0
 const FORMS: &str = "pikos 1 entry main points 40 elements 44
 head 20 main>f@4:2>g@30:12 18446744073709551615:1
   payload[] [-36893488147419103232,255] 2Z+1
+  key[0] [0,255] 1Z+0
+  key[18446744073709551615] [7,7] 0Z+7
   length [0,32] 0Z+7
   length - i <= -3
   length + i <= 4
@@ -369,7 +371,7 @@ fn a_report_that_is_cut_is_refused(rt: HostRuntime) -> Result<(), Fail> {
 }
 
 // What stands for a piece of the report above, and is none; and what of it is right still.
-const WRONG: [(&str, &str, &str); 16] = [
+const WRONG: [(&str, &str, &str); 19] = [
     ("pikos 1", "pikos 2", "pikos "),
     ("points 40", "points 040", "points 0"),
     ("elements 44", "elements +44", "elements "),
@@ -380,7 +382,14 @@ const WRONG: [(&str, &str, &str); 16] = [
         "18446744073709551616:1",
         "1844674407370955161",
     ),
-    ("payload[]", "payload[2]", "payload["),
+    ("payload[]", "payload[-2]", "payload["),
+    ("key[0]", "key[00]", "key[0"),
+    ("key[0]", "key[0]]", "key[0]"),
+    (
+        "key[18446744073709551615]",
+        "key[18446744073709551616]",
+        "key[1844674407370955161",
+    ),
     ("  length [0,32]", " length [0,32]", " "),
     ("[0,32]", "[-0,32]", "[-"),
     ("2Z+1", "2Z1", "2Z"),

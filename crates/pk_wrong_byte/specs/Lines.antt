@@ -1,5 +1,5 @@
 -- How far a text goes as each line of a report.
-use Rattle.std.specs.Prelude.{ℕ, min, Bool, true, false, codes, length}
+use Rattle.std.specs.Prelude.{ℕ, min, Bool, true, false, List, [], codes, length}
 use Rattle.pk_ctypes.specs.declared.faults.Fault.{Fault}
 use Rattle.pk_ctypes.specs.declared.faults.Fault.TheVariants.{Index, DivZero, Overflow, Shift, Assert}
 use Rattle.pk_ctypes.specs.Words.{fault_text}
@@ -7,7 +7,7 @@ use Rattle.pk_show.specs.declared.rows.Form.{Form}
 use Rattle.pk_show.specs.declared.rows.Form.TheVariants.{Difference, Sum, NegatedSum}
 use Rattle.pk_show.specs.declared.report.Kind.{Kind}
 use Rattle.pk_show.specs.declared.report.Kind.TheVariants as kind
-use Rattle.pk_show.specs.Rows.{head_word, array_mark, front_of, sign_of}
+use Rattle.pk_show.specs.Rows.{head_word, front_of, sign_of}
 use Rattle.pk_wrong_byte.specs.Pieces.{ReachedOf, literal, name, count, number, place, path}
 
 -- how many bytes are left
@@ -26,8 +26,13 @@ heading is_head r = place (literal (codes " ") (path (literal (codes " ") (count
 unfoldable pub known : ReachedOf → ReachedOf
 known r = number (literal (codes "Z+") (number (literal (codes "] ") (number (literal (codes ",") (number r))))))
 
-unfoldable pub value : (is_array : Bool) → ReachedOf → ReachedOf
-value is_array r = known (literal (codes " [") (literal (array_mark is_array) (name (literal (codes "  ") r))))
+-- of a variable, or of each element of an array, as the mark behind its name says
+unfoldable pub value : (mark : List ℕ) → ReachedOf → ReachedOf
+value mark r = known (literal (codes " [") (literal mark (name (literal (codes "  ") r))))
+
+-- of one element
+unfoldable pub element : ReachedOf → ReachedOf
+element r = known (literal (codes "] [") (count (literal (codes "[") (name (literal (codes "  ") r)))))
 
 unfoldable pub bound : Form → ReachedOf → ReachedOf
 bound f r =
@@ -62,7 +67,7 @@ abbrev pub kind_left : Kind → ReachedOf → ℕ
 kind_left kind.Opening r = left (opening r)
 kind_left kind.Heading r = min (left (heading true r)) (left (heading false r))
 kind_left kind.NoRun r = left (literal (codes "  unreachable") r)
-kind_left kind.Value r = min (left (value false r)) (left (value true r))
+kind_left kind.Value r = min (left (value [] r)) (min (left (value (codes "[]") r)) (left (element r)))
 kind_left kind.Bound r = min (left (bound Difference r)) (min (left (bound Sum r)) (left (bound NegatedSum r)))
 kind_left kind.Access r = faults_left (access r)
 kind_left kind.Counts r = left (counts r)

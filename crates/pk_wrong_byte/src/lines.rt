@@ -3,8 +3,8 @@
 ghost use Rattle.std.specs.Prelude.{◌≡◌};
 ghost use Rattle.pk_ctypes.specs.Words.{fault_text};
 ghost use Rattle.pk_show.specs.declared.report.Kind.TheVariants as kind;
-ghost use Rattle.pk_show.specs.Rows.{head_word, array_mark, front_of, sign_of};
-ghost use Rattle.pk_wrong_byte.specs.Lines.{left, opening, heading, known, value, bound, unknown, verdict_left, fault_left, faults_left, access, counts, kind_left};
+ghost use Rattle.pk_show.specs.Rows.{head_word, front_of, sign_of};
+ghost use Rattle.pk_wrong_byte.specs.Lines.{left, opening, heading, known, value, element, bound, unknown, verdict_left, fault_left, faults_left, access, counts, kind_left};
 
 use crate::pieces::{Reached, count, literal, name, number, path, place};
 use pk_ctypes::Fault;
@@ -50,19 +50,22 @@ fn known<'t>(r: &Reached<'t>) -> Reached<'t>
     number(&literal(&modulus, b"Z+"))
 }
 
-fn array_mark(is_array: bool) -> &'static [u8]
-    ensures { result.now ≡ array_mark is_array }
-{
-    if is_array { b"[]" } else { b"" }
-}
-
 #[tactic(auto, unfolding(crate::specs::Lines::value))]
-fn value<'t>(r: &Reached<'t>, is_array: bool) -> Reached<'t>
-    ensures { result ≡ value is_array r.now }
+fn value<'t>(r: &Reached<'t>, mark: &[u8]) -> Reached<'t>
+    ensures { result ≡ value mark.now r.now }
 {
     let name = name(&literal(r, b"  "));
-    let marked = literal(&name, array_mark(is_array));
+    let marked = literal(&name, mark);
     known(&literal(&marked, b" ["))
+}
+
+#[tactic(auto, unfolding(crate::specs::Lines::element))]
+fn element<'t>(r: &Reached<'t>) -> Reached<'t>
+    ensures { result ≡ element r.now }
+{
+    let name = name(&literal(r, b"  "));
+    let number = count(&literal(&name, b"["));
+    known(&literal(&number, b"] ["))
 }
 
 fn front_of(form: Form) -> &'static [u8]
@@ -171,9 +174,10 @@ fn heading_left(r: &Reached<'_>) -> usize
 fn value_left(r: &Reached<'_>) -> usize
     ensures { result ≡ kind_left kind.Value r.now }
 {
-    let variable = left(&value(r, false));
-    let array = left(&value(r, true));
-    variable.min(array)
+    let scalar = left(&value(r, b""));
+    let each = left(&value(r, b"[]"));
+    let element = left(&element(r));
+    scalar.min(each.min(element))
 }
 
 fn bound_left(r: &Reached<'_>) -> usize

@@ -1,5 +1,5 @@
 -- What is left of a line as the lines of each kind, and as those that may stand there.
-use Rattle.std.proofs.Common.{◌≡◌, inl, inr, ℕ, List, length, refl, sym, ap, subst, ◌∙◌, Bool, true, false, cond, Option, Some}
+use Rattle.std.proofs.Common.{◌≡◌, inl, inr, ℕ, List, [], length, refl, sym, ap, subst, ◌∙◌, Bool, true, false, cond, Option, Some}
 use Rattle.std.specs.Prelude.{codes}
 use Rattle.pk_ctypes.specs.declared.faults.Fault.{Fault}
 use Rattle.pk_ctypes.specs.declared.faults.Fault.TheVariants.{Index, DivZero, Overflow, Shift, Assert}
@@ -7,6 +7,8 @@ use Rattle.pk_show.specs.declared.rows.Form.{Form}
 use Rattle.pk_show.specs.declared.rows.Form.TheVariants.{Difference, Sum, NegatedSum}
 use Rattle.pk_show.specs.declared.rows.Verdict.{Verdict}
 use Rattle.pk_show.specs.declared.rows.Verdict.TheVariants.{Safe, Unknown, Unreachable}
+use Rattle.pk_show.specs.declared.rows.Subject.{Subject}
+use Rattle.pk_show.specs.declared.rows.Subject.TheVariants.{Scalar, EachElement, Element}
 use Rattle.pk_show.specs.declared.report.Row.{Row}
 use Rattle.pk_show.specs.declared.report.Row.TheVariants as row
 use Rattle.pk_show.specs.declared.report.Kind.{Kind}
@@ -20,7 +22,7 @@ use Rattle.pk_wrong_byte.specs.Lines as lines
 use Rattle.pk_wrong_byte.specs.Wrong.{left_if, least_left}
 use Rattle.pk_wrong_byte_laws.proofs.Goes.{nothing}
 use Rattle.pk_wrong_byte_laws.proofs.PieceGoes.{Is, literal_piece}
-use Rattle.pk_wrong_byte_laws.proofs.LineGoes.{OpeningText, opening_piece, CountsText, counts_piece, HeadingText, heading_piece, ValueText, value_piece, BoundText, bound_piece, AccessText, access_piece, IsSafe, IsUnknown, IsUnreachable, safe_piece, unknown_piece, unreachable_piece}
+use Rattle.pk_wrong_byte_laws.proofs.LineGoes.{OpeningText, opening_piece, CountsText, counts_piece, HeadingText, heading_piece, ValueText, IsScalar, IsEachElement, IsElement, scalar_piece, each_piece, element_piece, BoundText, bound_piece, AccessText, access_piece, IsSafe, IsUnknown, IsUnreachable, safe_piece, unknown_piece, unreachable_piece}
 use Rattle.pk_wrong_byte_laws.proofs.Least.{Leaves, Or, piece_leaves, either_leaves, retold_leaves, none_leaves}
 use Rattle.pk_wrong_byte_laws.proofs.RowsAre.{next_is_row}
 
@@ -93,25 +95,33 @@ heading_leaves line =
     back u (row.Access a) k is e = absurd (cc k)
     back u (row.Counts c) k is e = absurd (cc k)
 
+abbrev ValueTexts : List ℕ → Type 0
+ValueTexts = Or (ValueText IsScalar) (Or (ValueText IsEachElement) (ValueText IsElement))
+
 value_leaves : (line : List ℕ) → Leaves (RowText kind.Value) line (lines.kind_left kind.Value (reached line true))
 value_leaves line =
-    retold_leaves (Or (ValueText false) (ValueText true)) (RowText kind.Value) line _ there (λ u h. back u h.0 h.1 h.2 h.3)
-    (either_leaves (ValueText false) (ValueText true) line _ _ (piece_leaves (ValueText false) _ (lines.value false) (value_piece false) line)
-    (piece_leaves (ValueText true) _ (lines.value true) (value_piece true) line))
+    retold_leaves ValueTexts (RowText kind.Value) line _ there (λ u h. back u h.0 h.1 h.2 h.3)
+    (either_leaves (ValueText IsScalar) (Or (ValueText IsEachElement) (ValueText IsElement)) line _ _
+    (piece_leaves (ValueText IsScalar) _ (lines.value []) scalar_piece line)
+    (either_leaves (ValueText IsEachElement) (ValueText IsElement) line _ _
+    (piece_leaves (ValueText IsEachElement) _ (lines.value (codes "[]")) each_piece line)
+    (piece_leaves (ValueText IsElement) _ lines.element element_piece line)))
   where
-    there : (u : List ℕ) → Or (ValueText false) (ValueText true) u → RowText kind.Value u
+    there : (u : List ℕ) → ValueTexts u → RowText kind.Value u
     there u (inl h) = (row.Value h.0, refl, h.1, h.3)
-    there u (inr h) = (row.Value h.0, refl, h.1, h.3)
+    there u (inr (inl h)) = (row.Value h.0, refl, h.1, h.3)
+    there u (inr (inr h)) = (row.Value h.0, refl, h.1, h.3)
 
-    back : (u : List ℕ) (r : Row) → kind_of r ≡ kind.Value → IsRow r → u ≡ row_text r → Or (ValueText false) (ValueText true) u
+    back : (u : List ℕ) (r : Row) → kind_of r ≡ kind.Value → IsRow r → u ≡ row_text r → ValueTexts u
     back u (row.Opening o) k is e = absurd (cc k)
     back u (row.Heading h) k is e = absurd (cc k)
     back u row.NoRun k is e = absurd (cc k)
-    back u (row.Value v) k is e = by_mark v.is_array refl
+    back u (row.Value v) k is e = by_subject v.subject refl
       where
-        by_mark : (t : Bool) → v.is_array ≡ t → Or (ValueText false) (ValueText true) u
-        by_mark false w = inl (v, is, w, e)
-        by_mark true w = inr (v, is, w, e)
+        by_subject : (s : Subject) → v.subject ≡ s → ValueTexts u
+        by_subject Scalar w = inl (v, is, subst IsScalar (sym w) tt, e)
+        by_subject EachElement w = inr (inl (v, is, subst IsEachElement (sym w) tt, e))
+        by_subject (Element i) w = inr (inr (v, is, subst IsElement (sym w) tt, e))
     back u (row.Bound b) k is e = absurd (cc k)
     back u (row.Access a) k is e = absurd (cc k)
     back u (row.Counts c) k is e = absurd (cc k)

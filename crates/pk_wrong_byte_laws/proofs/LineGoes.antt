@@ -1,5 +1,5 @@
 -- How far a text goes as each line of a report.
-use Rattle.std.proofs.Common.{◌≡◌, ℕ, List, [], ◌∷◌, ◌++◌, refl, sym, ap, subst, ◌∙◌, Bool, true, false, append_assoc}
+use Rattle.std.proofs.Common.{◌≡◌, ℕ, ◌<◌, ◌^◌, List, [], ◌∷◌, ◌++◌, refl, sym, ap, subst, ◌∙◌, Bool, false, append_assoc}
 use Rattle.std.specs.Prelude.{ℤ, codes}
 use Rattle.std.specs.Fmt.{decimal, signed_decimal}
 use Rattle.pk_ctypes.specs.declared.faults.Fault.{Fault}
@@ -11,10 +11,12 @@ use Rattle.pk_show.specs.declared.rows.Verdict.{Verdict}
 use Rattle.pk_show.specs.declared.rows.Verdict.TheVariants.{Safe, Unknown, Unreachable}
 use Rattle.pk_show.specs.declared.rows.Counts.{Counts}
 use Rattle.pk_show.specs.declared.rows.Known.{Known}
-use Rattle.pk_show.specs.Rows.{OpeningOf, HeadingOf, ValueOf, BoundOf, AccessOf, opening_text, heading_text, value_text, known_text, class_text, bound_text, access_text, verdict_text, counts_text, head_word, array_mark, front_of, sign_of}
-use Rattle.pk_show.specs.Laws.{IsNumber, IsVerdict, IsOpening, IsHeading, IsKnown, IsValue, IsBound, IsAccess, AreCounts, TellsPath}
+use Rattle.pk_show.specs.declared.rows.Subject.{Subject}
+use Rattle.pk_show.specs.declared.rows.Subject.TheVariants.{Scalar, EachElement, Element}
+use Rattle.pk_show.specs.Rows.{OpeningOf, HeadingOf, ValueOf, BoundOf, AccessOf, opening_text, heading_text, value_text, known_text, class_text, bound_text, access_text, verdict_text, counts_text, head_word, mark_of, front_of, sign_of}
+use Rattle.pk_show.specs.Laws.{IsNumber, IsVerdict, IsOpening, IsHeading, IsKnown, IsSubject, IsValue, IsBound, IsAccess, AreCounts, TellsPath}
 use Rattle.pk_wrong_byte.specs.Pieces.{ReachedOf, literal, name, count, number, place, path}
-use Rattle.pk_wrong_byte.specs.Lines.{opening, heading, known, value, bound, unknown, access, counts}
+use Rattle.pk_wrong_byte.specs.Lines.{opening, heading, known, value, element, bound, unknown, access, counts}
 use Rattle.pk_wrong_byte_laws.proofs.Alike.{Apart}
 use Rattle.pk_wrong_byte_laws.proofs.Numerals.{is_decimal}
 use Rattle.pk_wrong_byte_laws.proofs.Goes.{Then, then_is, IsPiece, seq, retold_piece, HasBehind, nothing, after_literal, literal_next, literal_last}
@@ -293,70 +295,189 @@ known_piece =
     (then_lit IsNumberText is_decimal number 93 (codes " ") _ is_decimal _ number_piece refl
     (then_lit IsNumberText is_decimal number 90 (codes "+") IsNumberText is_decimal number number_piece refl number_piece)))
 
-abbrev pub ValueText : Bool → List ℕ → Type 0
-ValueText is_array u = (v : ValueOf) × IsValue v × (v.is_array ≡ is_array) × (u ≡ value_text v)
+-- a line of values about such subjects
+abbrev pub ValueText : (Subject → Type 0) → List ℕ → Type 0
+ValueText S u = (v : ValueOf) × IsValue v × S v.subject × (u ≡ value_text v)
 
-abbrev MarkedParts : Bool → List ℕ → Type 0
-MarkedParts is_array = Then (Is (array_mark is_array)) (Then (Is (codes " [")) KnownText)
+abbrev pub IsScalar : Subject → Type 0
+IsScalar Scalar = Unit {0}
+IsScalar EachElement = ⊥
+IsScalar (Element i) = ⊥
 
-abbrev ValueParts : Bool → List ℕ → Type 0
-ValueParts is_array = Then (Is (codes "  ")) (Then IsNameText (MarkedParts is_array))
+abbrev pub IsEachElement : Subject → Type 0
+IsEachElement Scalar = ⊥
+IsEachElement EachElement = Unit {0}
+IsEachElement (Element i) = ⊥
 
-mark_behind : (is_array : Bool) → HasBehind is_part (MarkedParts is_array) is_decimal
-mark_behind true b w h a = literal_next is_part 91 (codes "]") (Then (Is (codes " [")) KnownText) is_decimal refl b w h a
-mark_behind false b w h a =
-    let k = h.is_second in
-    subst (λ (t : List ℕ). Apart is_part (t ++ w)) (sym (then_is b h [] (codes " [" ++ k.second) h.is_first (then_is h.second k (codes " [") k.second k.is_first refl))) refl
+abbrev pub IsElement : Subject → Type 0
+IsElement Scalar = ⊥
+IsElement EachElement = ⊥
+IsElement (Element i) = Unit {0}
 
-value_there : (is_array : Bool) (u : List ℕ) → ValueParts is_array u → ValueText is_array u
-value_there is_array u h =
+abbrev BehindMark : List ℕ → Type 0
+BehindMark = Then (Is (codes " [")) KnownText
+
+abbrev ValueParts : (mark : List ℕ) → List ℕ → Type 0
+ValueParts mark = Then (Is (codes "  ")) (Then IsNameText (Then (Is mark) BehindMark))
+
+value_text_is : (u mark : List ℕ) (h : ValueParts mark u) → u ≡ codes "  " ++ ((h.is_second.first ++ mark) ++ (codes " [" ++ known_text h.is_second.is_second.is_second.is_second.0))
+value_text_is u mark h =
     let n = h.is_second in
     let m = n.is_second in
     let b = m.is_second in
-    let k = b.is_second in (
-      record { name = n.first; is_array = is_array; known = k.0 },
-      record { name = n.is_first; known = k.1 },
-      refl,
-      then_is u h (codes "  ") _ h.is_first
-          (then_is _ n n.first (array_mark is_array ++ (codes " [" ++ known_text k.0)) refl (then_is _ m (array_mark is_array) _ m.is_first (then_is _ b (codes " [") (known_text k.0) b.is_first k.2))
-          ∙ sym (append_assoc n.first (array_mark is_array) (codes " [" ++ known_text k.0))),
+    let k = b.is_second in
+    then_is u h (codes "  ") _ h.is_first
+    (then_is _ n n.first (mark ++ (codes " [" ++ known_text k.0)) refl (then_is _ m mark _ m.is_first (then_is _ b (codes " [") (known_text k.0) b.is_first k.2))
+    ∙ sym (append_assoc n.first mark (codes " [" ++ known_text k.0)))
+
+value_there : (S : Subject → Type 0) (s : Subject) → S s → IsSubject s → (u : List ℕ) → ValueParts (mark_of s) u → ValueText S u
+value_there S s is small u h =
+    let n = h.is_second in
+    let k = n.is_second.is_second.is_second in (
+      record { name = n.first; subject = s; known = k.0 },
+      record { name = n.is_first; subject = small; known = k.1 },
+      is,
+      value_text_is u (mark_of s) h,
     )
 
-value_back : (is_array : Bool) (u : List ℕ) → ValueText is_array u → ValueParts is_array u
-value_back is_array u h = record {
+value_parts : (v : ValueOf) (mark u : List ℕ) → IsValue v → mark_of v.subject ≡ mark → u ≡ value_text v → ValueParts mark u
+value_parts v mark u h is e = record {
   first = codes "  ";
-  second = (h.0.name ++ array_mark h.0.is_array) ++ (codes " [" ++ known_text h.0.known);
+  second = (v.name ++ mark_of v.subject) ++ (codes " [" ++ known_text v.known);
   is_first = refl;
   is_second = record {
-    first = h.0.name;
-    second = array_mark h.0.is_array ++ (codes " [" ++ known_text h.0.known);
-    is_first = h.1.name;
+    first = v.name;
+    second = mark_of v.subject ++ (codes " [" ++ known_text v.known);
+    is_first = h.name;
     is_second = record {
-      first = array_mark h.0.is_array;
-      second = codes " [" ++ known_text h.0.known;
-      is_first = ap array_mark h.2;
+      first = mark_of v.subject;
+      second = codes " [" ++ known_text v.known;
+      is_first = is;
       is_second = record {
         first = codes " [";
-        second = known_text h.0.known;
+        second = known_text v.known;
         is_first = refl;
-        is_second = (h.0.known, h.1.known, refl);
+        is_second = (v.known, h.known, refl);
         joined = refl;
       };
       joined = refl;
     };
-    joined = append_assoc h.0.name (array_mark h.0.is_array) (codes " [" ++ known_text h.0.known);
+    joined = append_assoc v.name (mark_of v.subject) (codes " [" ++ known_text v.known);
   };
-  joined = h.3;
+  joined = e;
 }
 
-pub value_piece : (is_array : Bool) → IsPiece (ValueText is_array) is_decimal (value is_array)
+is_scalar : (s : Subject) → IsScalar s → mark_of s ≡ []
+is_scalar Scalar is = refl
+is_scalar EachElement is = absurd is
+is_scalar (Element i) is = absurd is
+
+is_each : (s : Subject) → IsEachElement s → mark_of s ≡ codes "[]"
+is_each Scalar is = absurd is
+is_each EachElement is = refl
+is_each (Element i) is = absurd is
+
+scalar_behind : HasBehind is_part (Then (Is []) BehindMark) is_decimal
+scalar_behind b w h a =
+    let k = h.is_second in
+    subst (λ (t : List ℕ). Apart is_part (t ++ w)) (sym (then_is b h [] (codes " [" ++ k.second) h.is_first (then_is h.second k (codes " [") k.second k.is_first refl))) refl
+
+marked_piece : (mark : List ℕ) → HasBehind is_part (Then (Is mark) BehindMark) is_decimal → IsPiece (ValueParts mark) is_decimal (value mark)
 unfolding value
-value_piece is_array =
-    retold_piece (ValueParts is_array) (ValueText is_array) is_decimal (value is_array) (value_there is_array) (value_back is_array)
+marked_piece mark behind =
+    after_lit (codes "  ") _ is_decimal _
+    (seq IsNameText (Then (Is mark) BehindMark) is_part is_decimal name _ name_piece
+    (after_lit mark _ is_decimal _ (after_lit (codes " [") KnownText is_decimal known known_piece)) behind)
+
+pub scalar_piece : IsPiece (ValueText IsScalar) is_decimal (value [])
+scalar_piece =
+    retold_piece (ValueParts []) (ValueText IsScalar) is_decimal (value []) (value_there IsScalar Scalar tt tt)
+    (λ u h. value_parts h.0 [] u h.1 (is_scalar h.0.subject h.2) h.3) (marked_piece [] scalar_behind)
+
+pub each_piece : IsPiece (ValueText IsEachElement) is_decimal (value (codes "[]"))
+each_piece =
+    retold_piece (ValueParts (codes "[]")) (ValueText IsEachElement) is_decimal (value (codes "[]")) (value_there IsEachElement EachElement tt tt)
+    (λ u h. value_parts h.0 (codes "[]") u h.1 (is_each h.0.subject h.2) h.3)
+    (marked_piece (codes "[]") (literal_next is_part 91 (codes "]") BehindMark is_decimal refl))
+
+-- ---- an element
+
+abbrev NumberedParts : List ℕ → Type 0
+NumberedParts = Then (Is (codes "[")) (Then IsCountText (Then (Is (codes "] [")) KnownText))
+
+abbrev ElementParts : List ℕ → Type 0
+ElementParts = Then (Is (codes "  ")) (Then IsNameText NumberedParts)
+
+element_joined : (name number known : List ℕ) → name ++ (codes "[" ++ (number ++ (codes "] [" ++ known))) ≡ (name ++ (codes "[" ++ (number ++ codes "]"))) ++ (codes " [" ++ known)
+element_joined name number known =
+    ap (λ (l : List ℕ). name ++ (codes "[" ++ l)) (sym (append_assoc number (codes "]") (codes " [" ++ known)))
+    ∙ sym (append_assoc name (codes "[" ++ (number ++ codes "]")) (codes " [" ++ known))
+
+element_there : (u : List ℕ) → ElementParts u → ValueText IsElement u
+element_there u h =
+    let n = h.is_second in
+    let m = n.is_second in
+    let i = m.is_second in
+    let b = i.is_second in
+    let k = b.is_second in
+    let number = i.is_first in (
+      record { name = n.first; subject = Element number.number; known = k.0 },
+      record { name = n.is_first; subject = number.small; known = k.1 },
+      tt,
+      then_is u h (codes "  ") _ h.is_first
+          (then_is _ n n.first _ refl (then_is _ m (codes "[") _ m.is_first (then_is _ i (decimal number.number) _ number.is (then_is _ b (codes "] [") (known_text k.0) b.is_first k.2)))
+          ∙ element_joined n.first (decimal number.number) (known_text k.0)),
+    )
+
+element_parts : (name : List ℕ) (i : ℕ) (k : Known) (u : List ℕ) → IsNameText name → i < 2 ^ 64 → IsKnown k →
+    u ≡ value_text (record { name = name; subject = Element i; known = k }) → ElementParts u
+element_parts name i k u is small known e = record {
+  first = codes "  ";
+  second = (name ++ (codes "[" ++ (decimal i ++ codes "]"))) ++ (codes " [" ++ known_text k);
+  is_first = refl;
+  is_second = record {
+    first = name;
+    second = codes "[" ++ (decimal i ++ (codes "] [" ++ known_text k));
+    is_first = is;
+    is_second = record {
+      first = codes "[";
+      second = decimal i ++ (codes "] [" ++ known_text k);
+      is_first = refl;
+      is_second = record {
+        first = decimal i;
+        second = codes "] [" ++ known_text k;
+        is_first = record { number = i; small = small; is = refl };
+        is_second = record {
+          first = codes "] [";
+          second = known_text k;
+          is_first = refl;
+          is_second = (k, known, refl);
+          joined = refl;
+        };
+        joined = refl;
+      };
+      joined = refl;
+    };
+    joined = sym (element_joined name (decimal i) (known_text k));
+  };
+  joined = e;
+}
+
+element_back : (u : List ℕ) → ValueText IsElement u → ElementParts u
+element_back u h = by_subject h.0.subject h.2 h.1.subject h.3
+  where
+    by_subject : (s : Subject) → IsElement s → IsSubject s → u ≡ value_text (record { name = h.0.name; subject = s; known = h.0.known }) → ElementParts u
+    by_subject Scalar is small e = absurd is
+    by_subject EachElement is small e = absurd is
+    by_subject (Element i) is small e = element_parts h.0.name i h.0.known u h.1.name small h.1.known e
+
+pub element_piece : IsPiece (ValueText IsElement) is_decimal element
+unfolding element
+element_piece =
+    retold_piece ElementParts (ValueText IsElement) is_decimal element element_there element_back
     (after_lit (codes "  ") _ is_decimal _
-    (seq IsNameText (MarkedParts is_array) is_part is_decimal name _ name_piece
-    (after_lit (array_mark is_array) _ is_decimal _ (after_lit (codes " [") KnownText is_decimal known known_piece))
-    (mark_behind is_array)))
+    (then_lit IsNameText is_part name 91 [] _ is_decimal _ name_piece refl
+    (then_lit IsCountText is_decimal count 93 (codes " [") KnownText is_decimal known count_piece refl known_piece)))
 
 -- ---- two variables
 

@@ -1,7 +1,7 @@
 -- What is read as a row meets what rows have to: names that are identifiers, numbers in range, paths.
-use Rattle.std.proofs.Common.{◌≡◌, ℕ, ◌<◌, ◌^◌, List, [], ◌∷◌, ◌++◌, map, refl, sym, ap, subst, ◌∙◌, Bool, true, false, cond, ◌&&◌, Option, Some, append_assoc, append-nil}
+use Rattle.std.proofs.Common.{◌≡◌, ℕ, ◌<◌, ◌^◌, List, [], ◌∷◌, ◌++◌, map, refl, sym, ap, subst, ◌∙◌, Bool, true, false, cond, Option, Some, append_assoc, append-nil}
 use Rattle.std.specs.Prelude.{ℤ, codes, All, is_some}
-use Rattle.std.specs.Option.{option_map, option_and_then}
+use Rattle.std.specs.Option.{option_map}
 use Rattle.std.specs.List.{flat_map, join_with_byte}
 use Rattle.std.specs.Fmt.{decimal}
 use Rattle.std.proofs.lemmas.Bool.{and_parts}
@@ -17,12 +17,14 @@ use Rattle.pk_show.specs.declared.rows.Verdict.{Verdict}
 use Rattle.pk_show.specs.declared.rows.Verdict.TheVariants.{Safe, Unknown, Unreachable}
 use Rattle.pk_show.specs.declared.rows.Counts.{Counts}
 use Rattle.pk_show.specs.declared.rows.Known.{Known}
+use Rattle.pk_show.specs.declared.rows.Subject.{Subject}
+use Rattle.pk_show.specs.declared.rows.Subject.TheVariants.{Scalar, EachElement, Element}
 use Rattle.pk_show.specs.Pieces.{if_true, strip, cut, count_in, signed_in, is_identifier, identifier_in, place_in, fault_in, with_column}
 use Rattle.pk_show.specs.Paths.{CallOf, PathOf, call_text, path_text, called, call_in, calls_in, parts_of, path_of, whole_in, path_in}
 use Rattle.pk_show.specs.Rows.{OpeningOf, HeadingOf, ValueOf, BoundOf, AccessOf, head_word, no_run_text}
-use Rattle.pk_show.specs.Reading.{opening, heading, known, class_of, value, bound, access, counts, pair, named, opening_in, heading_in, array_name_in, class_in, known_in, value_in, form_in, bound_in, unknown_in, verdict_in, access_in, others_in, counts_in}
+use Rattle.pk_show.specs.Reading.{opening, heading, known, class_of, value, bound, access, counts, pair, named, opening_in, heading_in, element_in, elements_in, array_in, subject_in, class_in, known_in, value_in, form_in, bound_in, unknown_in, verdict_in, access_in, others_in, counts_in}
 use Rattle.pk_show.specs.Reports.{kind_of, may_stand, point_row_in, row_in, has_path, fits, next_in}
-use Rattle.pk_show.specs.Laws.{IsNumber, IsPlace, IsVerdict, IsOpening, IsKnown, IsValue, IsBound, AreCounts, IsCall, IsPath, TellsPath, IsRow}
+use Rattle.pk_show.specs.Laws.{IsNumber, IsPlace, IsVerdict, IsOpening, IsKnown, IsSubject, IsValue, IsBound, AreCounts, IsCall, IsPath, TellsPath, IsRow}
 use Rattle.pk_show.proofs.ToldLemmas.{steps, some_same, passed, cut_told, place_told}
 use Rattle.pk_show.proofs.RowsToldLemmas.{mapped, either}
 use Rattle.pk_wrong_byte_laws.proofs.PathGoes.{no_blank_in}
@@ -190,28 +192,51 @@ known_is text k e =
       rest = is.1;
     })
 
-array_name_is : (text : List ℕ) (p : List ℕ × Bool) → array_name_in text ≡ Some p → is_identifier p.0 ≡ true
-unfolding array_name_in
-array_name_is text p e = by_name (is_identifier text) refl e
+element_is : (text : List ℕ) (s : Subject) → element_in text ≡ Some s → IsSubject s
+unfolding element_in
+element_is text s e =
+    let i = steps (cut (codes "]") text) _ s e in
+    let number = steps (count_in i.first.0) _ s i.then_gave in
+    subst IsSubject (passed (same i.first.1 []) (Element number.first) s number.then_gave).1 (count_small i.first.0 number.first number.gave)
+
+elements_are : (text : List ℕ) (s : Subject) → elements_in text ≡ Some s → IsSubject s
+unfolding elements_in
+elements_are text s e = by_end (same text (codes "]")) e
   where
-    by_name : (t : Bool) → t ≡ is_identifier text → cond t (Some (named text false))
-        (option_and_then (λ q. if_true (is_identifier q.0 && same q.1 []) (named q.0 true)) (cut (codes "[]") text)) ≡ Some p →
-        is_identifier p.0 ≡ true
-    by_name true t f = ap (λ (q : List ℕ × Bool). is_identifier q.0) (sym (some_same (named text false) p f)) ∙ sym t
-    by_name false t f =
-        let s = steps (cut (codes "[]") text) _ p f in
-        let both = passed (is_identifier s.first.0 && same s.first.1 []) (named s.first.0 true) p s.then_gave in
-        ap (λ (q : List ℕ × Bool). is_identifier q.0) (sym both.1) ∙ (and_parts (is_identifier s.first.0) (same s.first.1 []) both.0).0
+    by_end : (t : Bool) → cond t (Some EachElement) (element_in text) ≡ Some s → IsSubject s
+    by_end true f = subst IsSubject (some_same EachElement s f) tt
+    by_end false f = element_is text s f
+
+abbrev IsNamed : List ℕ × Subject → Type 0
+IsNamed p = (is_identifier p.0 ≡ true) × IsSubject p.1
+
+array_is : (text : List ℕ) (p : List ℕ × Subject) → array_in text ≡ Some p → IsNamed p
+unfolding array_in
+array_is text p e =
+    let n = steps (cut (codes "[") text) _ p e in
+    let name = steps (identifier_in n.first.0) _ p n.then_gave in
+    let s = steps (elements_in n.first.1) _ p name.then_gave in
+    let is = passed (is_identifier n.first.0) n.first.0 name.first name.gave in
+    subst IsNamed (some_same (named name.first s.first) p s.then_gave) (ap is_identifier (sym is.1) ∙ is.0, elements_are n.first.1 s.first s.gave)
+
+subject_is : (text : List ℕ) (p : List ℕ × Subject) → subject_in text ≡ Some p → IsNamed p
+unfolding subject_in
+subject_is text p e = by_name (is_identifier text) refl e
+  where
+    by_name : (t : Bool) → t ≡ is_identifier text → cond t (Some (named text Scalar)) (array_in text) ≡ Some p → IsNamed p
+    by_name true is f = subst IsNamed (some_same (named text Scalar) p f) (sym is, tt)
+    by_name false is f = array_is text p f
 
 value_is : (line : List ℕ) (v : ValueOf) → value_in line ≡ Some v → IsValue v
 unfolding value_in
 value_is line v e =
     let t = steps (strip (codes "  ") line) _ v e in
     let n = steps (cut (codes " [") t.first) _ v t.then_gave in
-    let name = steps (array_name_in n.first.0) _ v n.then_gave in
+    let name = steps (subject_in n.first.0) _ v n.then_gave in
     let k = steps (known_in n.first.1) _ v name.then_gave in
+    let is = subject_is n.first.0 name.first name.gave in
     subst IsValue (some_same (value name.first k.first) v k.then_gave)
-    (record { name = array_name_is n.first.0 name.first name.gave; known = known_is n.first.1 k.first k.gave })
+    (record { name = is.0; subject = is.1; known = known_is n.first.1 k.first k.gave })
 
 bound_is : (line : List ℕ) (b : BoundOf) → bound_in line ≡ Some b → IsBound b
 unfolding bound_in

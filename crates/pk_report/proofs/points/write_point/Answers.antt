@@ -7,11 +7,11 @@ use Rattle.pk_report.proofs.WriteLemmas.{two}
 use Rattle.pk_report.proofs.PointLemmas.{visible_below}
 use Rattle.pk_report.proofs.points.write_point.Goals as goal
 
-pub write_facts-requires : goal.write_facts-requires
-write_facts-requires c =
+pub write_facts-requires-clause-visible : goal.write_facts-requires-clause-visible
+write_facts-requires-clause-visible c =
     let g = graph_view c.args.graph.now in
-    subst (λ (xs : List ℕ). All (λ (x : ℕ). x < length c.args.state.now.layout.types) xs) (sym (c.deref.ensures.value ∙ c.in_ok-visible.ensures))
-    (subst (λ (n : ℕ). All (λ (x : ℕ). x < n) (visible_at g c.args.point)) (sym c.requires.layout) (visible_below g c.args.point c.well_made.ensures c.requires.point))
+    subst (λ (xs : List ℕ). All (λ (x : ℕ). x < length g.variables) xs) (sym (c.deref.ensures.value ∙ c.in_ok-visible.ensures))
+    (visible_below g c.args.point c.well_made.ensures c.requires.point)
 
 pub returns : goal.returns
 returns c =

@@ -12,5 +12,5 @@ returns c = λ all g heads elements states accesses verdicts h.
     ∙ c.reports_are_read.ensures.read (report_rows all g heads elements states accesses verdicts)
     (record {
       each = rows_all c.lines_are_read.ensures all g heads elements states accesses verdicts h;
-      order = rows_follow all g heads elements states accesses verdicts;
+      order = rows_follow all g heads elements states accesses verdicts h.layouts;
     })
