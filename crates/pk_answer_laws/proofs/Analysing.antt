@@ -16,7 +16,6 @@ use Rattle.pk_plan.specs.Digraphs.{IsClosed}
 use Rattle.pk_plan.specs.Order.{Level, Empty, Vertex_then, Component_then, places_of}
 use Rattle.pk_plan.specs.Plans.{PlanView}
 use Rattle.pk_plan.specs.Linear.{elements_of}
-use Rattle.pk_linear.specs.Texts.{order_text}
 use Rattle.pk_order.specs.Ordered.{IsOrdered, heads_of}
 use Rattle.pk_order_laws.specs.Digraphs.{EveryDigraphHasAnOrder}
 use Rattle.pk_iterate.specs.Behaviour.{Behaviour}
@@ -38,6 +37,7 @@ use Rattle.pk_analysis.specs.Parts.{part_in, AreParts}
 use Rattle.pk_report.specs.Reports.{report_text, summary_text, unknown_in}
 use Rattle.pk_analysis_laws.specs.Systems.{IsOver}
 use Rattle.pk_solver.specs.Solved.{AreStates}
+use Rattle.pk_peak.specs.Texts.{order_lines}
 use Rattle.pk_graph_report.specs.Reported.{verdicts_of}
 use Rattle.pk_answer_laws.specs.Analyses.{HasRoom, EveryGraphIsReported, EveryGraphIsSummed, EveryGraphIsOrdered}
 use Rattle.pk_answer_laws.proofs.Stops.{thresholds_of, are_thresholds}
@@ -65,9 +65,9 @@ pub order_of : EveryDigraphHasAnOrder → (g : GraphOf) → IsGraph g → (p : P
 order_of law g made = law (digraph_of g) (closed g made) (subst (λ (n : ℕ). n < 2 ^ 31) (sym (length-map g.points (λ (p : PointOf). targets_of p.edges))) made.few)
 
 pub ordered : EveryDigraphHasAnOrder → EveryGraphIsOrdered
-ordered law g made =
+ordered law g with_peak made =
     let x = order_of law g made in
-    (order_text (record { elements = x.0.elements; order = x.1 }), record { plan = x.0; order = x.1; ordered = x.2; told = refl })
+    (order_lines x.0 x.1 with_peak, record { plan = x.0; order = x.1; ordered = x.2; told = refl })
 
 elements_of_places : (level : Level) → map (λ (p : Place). p.element) (places_of level) ≡ elements_of level
 elements_of_places Empty = refl

@@ -1,6 +1,7 @@
 -- Under a limit that is enough no element is run too often.
 use Rattle.std.proofs.Common.{◌<◌, ◌≤◌, ◌^◌, inl, inr, ℕ, length, refl, subst, arith}
-use Rattle.pk_graph.specs.Graphs.{GraphOf}
+use Rattle.pk_graph.specs.Graphs.{GraphOf, kinds_of}
+use Rattle.pk_transfer.specs.Slots.{slot_types}
 use Rattle.pk_graph.specs.WellMade.{IsGraph}
 use Rattle.pk_graph.specs.OctagonVariables.{octagon_variables_of}
 use Rattle.pk_thresh.specs.Chains.{chain_bound_of}
@@ -39,7 +40,7 @@ enough_summed law low g o most seed size text_length made room few enough = elim
 pub limits : EveryDigraphHasAnOrder → OrderIsDetermined → EveryGraphHasLimits
 limits law one g o made =
     let x = order_of law g made in
-    let chain : ℕ = chain_bound_of (length g.variables) (length (thresholds_of g)) (length (octagon_variables_of g o.oct)) in (
+    let chain : ℕ = chain_bound_of (length (slot_types (kinds_of g))) (length (thresholds_of g)) (length (octagon_variables_of g o.oct)) in (
       turn_bound chain o.narrow o.delay ^ depth_of x.1,
       λ most h. record {
         chain = chain;

@@ -63,8 +63,8 @@ module _ (command : Command) (given text entry : List ℕ) (short : IsShort give
 
 pub orders : EveryGraphIsOrdered → EveryTextEnds → GraphsAreWellMade → OrdersAreAnswered
 orders law ends made text o = unless_long (Order o) text (λ short. ended (Order o) text text o.entry short (λ s x. x) (λ g h.
-    let x = law g (made text o.entry g h) in
-    record { status = status.Ok 0; bytes = x.0 ++ codes "\n"; reply = (short, record { graph = g; has_graph = h; line = x.0; order = x.1; told = refl; none_unknown = refl }) }) (ends text o.entry))
+    let x = law g o.peak (made text o.entry g h) in
+    record { status = status.Ok 0; bytes = x.0 ++ codes "\n"; reply = (short, record { graph = g; has_graph = h; lines = x.0; order = x.1; told = refl; none_unknown = refl }) }) (ends text o.entry))
 
 runs : EveryGraphIsReported → GraphsAreWellMade → (text : List ℕ) (o : RunOptions) → GraphsHaveRoom text → IsShort text (Run o) → (g : GraphOf) → HasGraph text o.entry g → HasReply (Run o) text
 runs law made text o room short g h = elim (law g (options_of o) o.max_runs o.points (made text o.entry g h) (room o.entry g h)) [

@@ -25,6 +25,7 @@ EveryGraphIsSummed =
     (g : GraphOf) (o : Options) (most seed size text_length : ℕ) → IsGraph g → HasRoom g →
     ((unknown : ℕ) × (bytes : List ℕ) × IsSummary g o most seed size text_length unknown bytes) ⊎ IsOver g o most
 
--- every graph has an order
+-- every graph has an order, and a peak of it
 abbrev pub EveryGraphIsOrdered : Type 0
-EveryGraphIsOrdered = (g : GraphOf) → IsGraph g → (bytes : List ℕ) × IsOrderText g bytes
+EveryGraphIsOrdered =
+    (g : GraphOf) (with_peak : Bool) → IsGraph g → (bytes : List ℕ) × IsOrderText g with_peak bytes

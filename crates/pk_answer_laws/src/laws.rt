@@ -23,7 +23,7 @@ pub fn short_graphs_have_room()
     ensures { ShortGraphsHaveRoom }
 {}
 
-/// Every graph has an order.
+/// Every graph has an order, and a peak of it.
 pub fn every_graph_is_ordered()
     ensures { EveryGraphIsOrdered }
 {

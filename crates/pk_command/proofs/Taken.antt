@@ -146,7 +146,7 @@ run_keyed : IsKeyed run_shape.rules
 run_keyed = ((refl, refl), ((refl, refl), ((refl, refl), ((refl, refl), ((refl, refl), ((refl, refl), ((refl, refl), tt)))))))
 
 order_keyed : IsKeyed order_shape.rules
-order_keyed = ((refl, refl), tt)
+order_keyed = ((refl, refl), ((refl, refl), tt))
 
 gen_keyed : IsKeyed gen_shape.rules
 gen_keyed = ((refl, refl), ((refl, refl), ((refl, refl), tt)))
@@ -473,7 +473,15 @@ gen_options rows found =
     let size = the_number (codes "size") rows (number_given (codes "size") rows) refl (not_missing (codes "size") rows found.size.given) in
     (record { seed = seed.0; size = size.0; workers = number_of (codes "workers") 4 rows }, record { seed = seed.1; size = size.1; workers = refl })
 
--- ---- the option of `order`
+-- ---- the options of `order`
+
+abbrev order_rule : ℕ → Rule
+order_rule i = unwrap_or (slice_get order_shape.rules i) (number_option [] 0 0)
+
+order_found : (rows : List Row) → Each (Passes order_shape.rules) rows → IsFlagFound (codes "peak") rows
+order_found rows pass =
+    let peak = given_of order_shape.rules (order_rule 1) (codes "peak") rows refl pass in
+    record { word = peak.passed; read = peak.read ∙ copied (first_of (codes "peak") rows) }
 
 -- what `get_str` gives for an option, or the default
 pub text_read : (name default : Text) (f : Found) (r : Option (Bor Text)) → option_map (λ s. s.now) r ≡ first_value f name
@@ -538,6 +546,13 @@ module _ (words : List Text) (rows : List Row) where
   run_of given (inr (inr (inr (inl names)))) = absurd (other cert_shape (codes "run") refl given names)
   run_of given (inr (inr (inr (inr names)))) = absurd (other check_shape (codes "run") refl given names)
 
+  order_of : given_by words ≡ Some (codes "order", rows) → NamesOne words → IsFlagFound (codes "peak") rows
+  order_of given (inl names) = absurd (other run_shape (codes "order") refl given names)
+  order_of given (inr (inl names)) = own (IsFlagFound (codes "peak")) order_shape given names (order_found names.rows names.pass)
+  order_of given (inr (inr (inl names))) = absurd (other gen_shape (codes "order") refl given names)
+  order_of given (inr (inr (inr (inl names)))) = absurd (other cert_shape (codes "order") refl given names)
+  order_of given (inr (inr (inr (inr names)))) = absurd (other check_shape (codes "order") refl given names)
+
   gen_of : given_by words ≡ Some (codes "gen", rows) → NamesOne words → IsGenFound rows
   gen_of given (inl names) = absurd (other run_shape (codes "gen") refl given names)
   gen_of given (inr (inl names)) = absurd (other order_shape (codes "gen") refl given names)
@@ -554,6 +569,9 @@ module _ (words : List Text) (rows : List Row) where
 
   pub run_of_taken : fault_of pikos_app words ≡ [] → given_by words ≡ Some (codes "run", rows) → IsRunFound rows
   run_of_taken taken given = run_of given (taken_names words taken)
+
+  pub order_of_taken : fault_of pikos_app words ≡ [] → given_by words ≡ Some (codes "order", rows) → IsFlagFound (codes "peak") rows
+  order_of_taken taken given = order_of given (taken_names words taken)
 
   pub gen_of_taken : fault_of pikos_app words ≡ [] → given_by words ≡ Some (codes "gen", rows) → IsGenFound rows
   gen_of_taken taken given = gen_of given (taken_names words taken)

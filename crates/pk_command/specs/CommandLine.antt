@@ -51,9 +51,9 @@ run_number_options = workers_option
 abbrev pub run_app : App
 run_app = command (codes "run") (run_number_options ++ entry_option ∷ flag (codes "points") ∷ [])
 
--- `order [--entry NAME]`
+-- `order [--entry NAME] [--peak]`
 abbrev pub order_app : App
-order_app = command (codes "order") (entry_option ∷ [])
+order_app = command (codes "order") (entry_option ∷ flag (codes "peak") ∷ [])
 
 -- `gen --seed S --size N [--workers N]`
 abbrev pub gen_app : App

@@ -48,7 +48,10 @@ run_options rows = record {
 }
 
 abbrev pub order_options : List Row → OrderOptions
-order_options rows = record { entry = text_of (codes "entry") (codes "main") rows }
+order_options rows = record {
+  entry = text_of (codes "entry") (codes "main") rows;
+  peak = is_set (codes "peak") rows;
+}
 
 -- the options of `gen`, of which the seed and the size have no default
 pub record IsGen (rows : List Row) (options : GenOptions) : Type 0 where

@@ -18,9 +18,9 @@ RunIsTaken = AsksFor (codes "run" ∷ []) (Run (record {
   points = false;
 }))
 
--- the word `order` alone asks for the order from `main`
+-- the word `order` alone asks for the order from `main`, without its peak
 abbrev pub OrderIsTaken : Type 0
-OrderIsTaken = AsksFor (codes "order" ∷ []) (Order (record { entry = codes "main" }))
+OrderIsTaken = AsksFor (codes "order" ∷ []) (Order (record { entry = codes "main"; peak = false }))
 
 -- the word `gen` with a seed and a size asks for their program
 abbrev pub GenIsTaken : Type 0

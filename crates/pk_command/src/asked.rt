@@ -26,6 +26,8 @@ pub struct RunOptions {
 pub struct OrderOptions {
     /// The name of the function that a run of the text begins with. It may be any text, the empty one too.
     pub entry: Name,
+    /// Whether the peak of the order is told.
+    pub peak: bool,
 }
 
 /// The options of `gen`.

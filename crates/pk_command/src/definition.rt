@@ -3,7 +3,8 @@
 ghost use Rattle.std.specs.Prelude.{◌≡◌, IfOk, Ok, codes, false};
 ghost use Rattle.clap.specs.Words.{App, Rule, app_of, rule_of, with_rule, with_subcommand};
 ghost use Rattle.clap.specs.declared.Command.TheViews.{out-Command as fields_of};
-ghost use Rattle.pk_command.specs.CommandLine.{IsCommand, IsOption, number_option, required_number, text_option, flag, command, run_number_options, run_app, order_app, gen_app, cert_app, check_app, program_app, pikos_app};
+ghost use Rattle.pk_command.specs.CommandLine.{IsCommand, IsOption, number_option, required_number, text_option, flag, command};
+ghost use Rattle.pk_command.specs.CommandLine.{run_number_options, run_app, order_app, gen_app, cert_app, check_app, program_app, pikos_app};
 
 use clap::{Arg, ArgAction, Command};
 use std::alloc::{AllocError, Global};
@@ -77,6 +78,15 @@ fn points<'a>(alloc: Global) -> Arg<'a>
         .action(ArgAction::SetTrue)
 }
 
+fn peak<'a>(alloc: Global) -> Arg<'a>
+    ensures rule { rule_of result ≡ flag (codes "peak") }
+    ensures local { result.global ≡ false }
+{
+    Arg::new(alloc, "peak")
+        .long("peak")
+        .action(ArgAction::SetTrue)
+}
+
 // A command with one more option.
 fn with<'a>(
     command: Result<Command<'a>, AllocError>,
@@ -141,7 +151,8 @@ fn run_command<'a>(alloc: Global) -> Result<Command<'a>, AllocError>
 fn order_command<'a>(alloc: Global) -> Result<Command<'a>, AllocError>
     ensures { IfOk result (IsCommand order_app) }
 {
-    with(Ok(Command::new(alloc, "order")), entry(alloc))
+    let order = with(Ok(Command::new(alloc, "order")), entry(alloc));
+    with(order, peak(alloc))
 }
 
 fn seed<'a>(alloc: Global) -> Arg<'a>

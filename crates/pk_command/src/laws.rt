@@ -7,7 +7,7 @@ pub fn run_is_taken()
     ensures { RunIsTaken }
 {}
 
-/// The word `order` alone asks for the order from `main`.
+/// The word `order` alone asks for the order from `main`, without its peak.
 pub fn order_is_taken()
     ensures { OrderIsTaken }
 {}

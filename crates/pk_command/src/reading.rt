@@ -119,10 +119,12 @@ fn run_options(alloc: Global, found: &ArgMatches<'_>) -> Result<RunOptions, Allo
 }
 
 fn order_options(alloc: Global, found: &ArgMatches<'_>) -> Result<OrderOptions, AllocError>
+    requires { IsFlagFound (codes "peak") (rows_of (found_of found.now)) }
     ensures { IfOk result (λ options. options ≡ order_options_of (rows_of (found_of found.now))) }
 {
     Ok(OrderOptions {
         entry: entry(alloc, found)?,
+        peak: is_given(found, "peak"),
     })
 }
 

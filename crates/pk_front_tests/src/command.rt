@@ -40,9 +40,11 @@ fn asks_for_run(alloc: Global, words: &str, wanted: &Wanted, entry: &str) -> Res
     }
 }
 
-fn asks_for_order(alloc: Global, words: &str, entry: &str) -> Result<bool, Fail> {
+fn asks_for_order(alloc: Global, words: &str, entry: &str, peak: bool) -> Result<bool, Fail> {
     match answer(alloc, words)? {
-        Ok(Command::Order(options)) => Ok(options.entry.as_str() == entry),
+        Ok(Command::Order(options)) => {
+            Ok(options.entry.as_str() == entry && options.peak == peak)
+        }
         _ => Ok(false),
     }
 }
@@ -121,28 +123,35 @@ fn these_words_ask_for_a_run(rt: HostRuntime) -> Result<(), Fail> {
     Ok(())
 }
 
-const ORDERS: [(&str, &str); 15] = [
-    ("order", "main"),
-    ("order --", "main"),
-    ("order --entry f", "f"),
-    ("order --entry=f", "f"),
-    ("order --entry f --", "f"),
-    ("order --entry order", "order"),
-    ("order --entry entrée", "entrée"),
-    ("order --entry a=b", "a=b"),
-    ("order --entry=a=b", "a=b"),
-    ("order --entry=", ""),
-    ("order --entry ", ""),
-    ("order --entry -", "-"),
-    ("order --entry=-x", "-x"),
-    ("order --entry=--", "--"),
-    ("order --entry=--entry", "--entry"),
+const ORDERS: [(&str, &str, bool); 19] = [
+    ("order", "main", false),
+    ("order --", "main", false),
+    ("order --entry f", "f", false),
+    ("order --entry=f", "f", false),
+    ("order --entry f --", "f", false),
+    ("order --entry order", "order", false),
+    ("order --entry entrée", "entrée", false),
+    ("order --entry a=b", "a=b", false),
+    ("order --entry=a=b", "a=b", false),
+    ("order --entry=", "", false),
+    ("order --entry ", "", false),
+    ("order --entry -", "-", false),
+    ("order --entry=-x", "-x", false),
+    ("order --entry=--", "--", false),
+    ("order --entry=--entry", "--entry", false),
+    ("order --entry=--peak", "--peak", false),
+    ("order --peak", "main", true),
+    ("order --peak --entry f", "f", true),
+    ("order --entry f --peak --", "f", true),
 ];
 
 #[test]
 fn these_words_ask_for_the_order(rt: HostRuntime) -> Result<(), Fail> {
-    for (words, entry) in &ORDERS {
-        assert!(rt; asks_for_order(rt.alloc(), *words, *entry)?, "{words}");
+    for (words, entry, peak) in &ORDERS {
+        assert!(rt;
+            asks_for_order(rt.alloc(), *words, *entry, *peak)?,
+            "{words}"
+        );
     }
     Ok(())
 }
@@ -183,7 +192,7 @@ fn these_words_ask_for_a_program(rt: HostRuntime) -> Result<(), Fail> {
     Ok(())
 }
 
-const USAGES: [&str; 120] = [
+const USAGES: [&str; 125] = [
     "",
     "Run",
     "ru",
@@ -258,6 +267,11 @@ const USAGES: [&str; 120] = [
     "order -e a",
     "--entry a order",
     "order --points",
+    "order --peak --peak",
+    "order --peak=true",
+    "order --peak true",
+    "order --pea",
+    "run --peak",
     "order --workers 2",
     "order --max-runs 5",
     "order --help",

@@ -1,17 +1,16 @@
 -- A graph has one report, one summary and one order.
 use Rattle.std.specs.Prelude.{ℕ, List}
 use Rattle.std.proofs.Common.{sym, ap, ◌∙◌}
-use Rattle.pk_plan.specs.Order.{Level}
 use Rattle.pk_graph.specs.Accesses.{accesses_of}
 use Rattle.pk_state.specs.Facts.{Stated}
-use Rattle.pk_linear.specs.Texts.{order_text}
-use Rattle.pk_order.specs.Ordered.{OrderIsDetermined, heads_of}
+use Rattle.pk_order.specs.Ordered.{heads_of}
+use Rattle.pk_peak.specs.Texts.{OrderLinesAreDetermined}
 use Rattle.pk_analysis.specs.Digraphs.{digraph_of}
 use Rattle.pk_report.specs.Reports.{report_text, summary_text, unknown_in}
 use Rattle.pk_solver.specs.Solved.{StatesAreDetermined}
 use Rattle.pk_graph_report.specs.Reported.{verdicts_of, OneReport}
 
-pub one_report : StatesAreDetermined → OrderIsDetermined → OneReport
+pub one_report : StatesAreDetermined → OrderLinesAreDetermined → OneReport
 one_report result law = record {
   reports = λ g o most all m n a b x y.
       let states = result.states g o most x.plan y.plan x.states y.states x.are_states y.are_states in
@@ -33,12 +32,7 @@ one_report result law = record {
             ∙ ap (λ (s : List Stated). summary_text seed size bytes g y.plan.elements (verdicts_of g s)) states)
             ∙ sym y.told,
       );
-  orders = λ g a b x y.
-      let elements = law.elements (digraph_of g) x.plan y.plan x.order y.order x.ordered y.ordered in
-      let order = law.order (digraph_of g) x.plan y.plan x.order y.order x.ordered y.ordered in
-      x.told
-      ∙ (ap (λ (k : ℕ). order_text (record { elements = k; order = x.order })) elements
-      ∙ ap (λ (l : Level). order_text (record { elements = y.plan.elements; order = l })) order)
-      ∙ sym y.told;
+  orders = λ g with_peak a b x y.
+      x.told ∙ law (digraph_of g) x.plan y.plan x.order y.order with_peak x.ordered y.ordered ∙ sym y.told;
   within = result.within;
 }

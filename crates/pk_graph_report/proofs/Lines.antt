@@ -1,27 +1,39 @@
 -- Points are told one by one.
 use Rattle.std.specs.Prelude.{◌≡◌, ℕ, ◌+◌, ◌<◌, ◌≤◌, Bool, true, false, ◌||◌, if◌then◌else◌, List, [], ◌++◌, length, take, slice_index_or}
 use Rattle.std.specs.List.{flat_map, range_with_len}
-use Rattle.std.proofs.Common.{sym, ap, subst, ◌∙◌, append-nil, zero-add}
+use Rattle.std.proofs.Common.{sym, ap, subst, ◌∙◌, append-nil, zero-add, arith}
+use Rattle.std.proofs.Math.ListN.{get_or-map}
 use Rattle.std.proofs.lemmas.List.{get_or_default, length-map}
 use Rattle.std.proofs.lemmas.List.Elements.{All-get_or}
 use Rattle.std.proofs.lemmas.List.FromFn.{get_or-range_with_len, length-range_with_len}
-use Rattle.pk_graph.specs.Kinds.{Kind}
-use Rattle.pk_graph.specs.Graphs.{VariableOf, GraphOf, kinds_of}
+use Rattle.pk_graph.specs.Kinds.{Kind, count_of, kind_at, count_at}
+use Rattle.pk_graph.specs.Graphs.{VariableOf, GraphOf, no_variable, variable_at, kinds_of}
 use Rattle.pk_state.specs.Facts.{Stated}
 use Rattle.pk_state.specs.Layouts.{Layout}
-use Rattle.pk_transfer.specs.Graphs.{layout_of}
+use Rattle.pk_transfer.specs.Slots.{HasSlots as HasSlotsOf}
+use Rattle.pk_transfer.specs.Graphs.{layout_of, GraphsAreOver}
 use Rattle.pk_analysis.specs.declared.analysis.Options.{Options}
+use Rattle.pk_report.specs.Values.{HasSlots}
 use Rattle.pk_report.specs.Reports.{no_state, point_lines, state_at, told_if, told_lines, AreHeads}
 use Rattle.pk_report.proofs.WriteLemmas.{flat_more, flat_all}
 use Rattle.pk_solver.specs.Solved.{AreOver}
 
--- a state has a value for each variable
-pub values_there : (g : GraphOf) (o : Options) (states : List Stated) (v : ℕ) (s : Stated) → AreOver g o states → v < length states → s ≡ state_at states v → length s.layout.types ≡ length g.variables
-values_there g o states v s over l is =
-    ap (λ (t : Stated). length t.layout.types) is
-    ∙ ap (λ (y : Layout). length y.types) (All-get_or (λ (t : Stated). t.layout ≡ layout_of g o.oct) states v no_state l over.each)
-    ∙ length-map (kinds_of g) (λ (k : Kind). k.int_type)
-    ∙ length-map g.variables (λ (x : VariableOf). x.kind)
+-- in a state of the graph each number of each variable has a slot
+pub slots_there : (g : GraphOf) (o : Options) (states : List Stated) (v : ℕ) (s : Stated) → GraphsAreOver → AreOver g o states → v < length states → s ≡ state_at states v → HasSlots g s.layout
+slots_there g o states v s graphs over l is =
+    subst (λ (y : Layout). HasSlots g y)
+    (sym (ap (λ (t : Stated). t.layout) is ∙ All-get_or (λ (t : Stated). t.layout ≡ layout_of g o.oct) states v no_state l over.each)) (record {
+      further = λ x h. (slots x h).variable;
+      own = λ x h. (slots x h).own;
+      there = λ x i h few. (slots x h).there i (subst (λ (k : Kind). i < count_of k.length) (sym (kind_is x)) few);
+    })
+  where
+    kind_is : (x : ℕ) → kind_at (kinds_of g) x ≡ (variable_at g x).kind
+    kind_is x = get_or-map (λ (y : VariableOf). y.kind) g.variables x no_variable
+
+    slots : (x : ℕ) → x < length g.variables → HasSlotsOf (layout_of g o.oct) x (count_at (kinds_of g) x)
+    slots x h =
+        graphs.slots (kinds_of g) (layout_of g o.oct) x (graphs.over g o.oct) (omega (arith, h, length-map g.variables (λ (y : VariableOf). y.kind)))
 
 -- a point that is told, and one that isn't
 pub told_so : (all told : Bool) (g : GraphOf) (s : Stated) (b : Bool) (v : ℕ) (old new : List ℕ) → told ≡ (b || all) → told ≡ true → new ≡ old ++ point_lines g s b v → new ≡ old ++ told_if all g s b v

@@ -7,8 +7,8 @@ use Rattle.pk_state.specs.Facts.{Stated}
 use Rattle.pk_verdict.specs.Verdicts.{verdict_of}
 use Rattle.pk_plan.specs.Order.{Level}
 use Rattle.pk_plan.specs.Plans.{PlanView}
-use Rattle.pk_linear.specs.Texts.{order_text}
 use Rattle.pk_order.specs.Ordered.{IsOrdered, heads_of}
+use Rattle.pk_peak.specs.Texts.{order_lines}
 use Rattle.pk_analysis.specs.declared.analysis.Options.{Options}
 use Rattle.pk_analysis.specs.Digraphs.{digraph_of}
 use Rattle.pk_report.specs.Reports.{state_at, report_text, summary_text, unknown_in}
@@ -39,12 +39,12 @@ pub record IsSummary (g : GraphOf) (o : Options) (most seed size text_length unk
   pub counted : unknown ≡ unknown_in (verdicts_of g states)
   pub told : bytes ≡ summary_text seed size text_length g plan.elements (verdicts_of g states)
 
--- the linear order of the graph's plan, without the line's end
-pub record IsOrderText (g : GraphOf) (bytes : List ℕ) : Type 0 where
+-- the linear order of the graph's plan, and its peak where it is asked for, without the last line's end
+pub record IsOrderText (g : GraphOf) (with_peak : Bool) (bytes : List ℕ) : Type 0 where
   pub plan : PlanView
   pub order : Level
   pub ordered : IsOrdered (digraph_of g) plan order
-  pub told : bytes ≡ order_text (record { elements = plan.elements; order = order })
+  pub told : bytes ≡ order_lines plan order with_peak
 
 -- A graph has at most one report, summary and order, and a report only where no element is run too often.
 pub record OneReport : Type 0 where
@@ -52,6 +52,7 @@ pub record OneReport : Type 0 where
       IsReport g o most all m a → IsReport g o most all n b → (m ≡ n) × (a ≡ b)
   pub summaries : (g : GraphOf) (o : Options) (most seed size text_length m n : ℕ) (a b : List ℕ) →
       IsSummary g o most seed size text_length m a → IsSummary g o most seed size text_length n b → (m ≡ n) × (a ≡ b)
-  pub orders : (g : GraphOf) (a b : List ℕ) → IsOrderText g a → IsOrderText g b → a ≡ b
+  pub orders : (g : GraphOf) (with_peak : Bool) (a b : List ℕ) → IsOrderText g with_peak a →
+      IsOrderText g with_peak b → a ≡ b
   pub within : (g : GraphOf) (o : Options) (most : ℕ) (p : PlanView) (states : List Stated) →
       AreStates g o most p states → IsOver g o most → ⊥

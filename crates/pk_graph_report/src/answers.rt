@@ -12,7 +12,8 @@ use crate::points::write_points;
 use crate::verdicts::verdicts;
 use pk_analysis::{Options, States, digraph};
 use pk_graph::{Graph, accesses};
-use pk_order::{line, ordered};
+use pk_order::ordered;
+use pk_peak::order_lines;
 use pk_plan::Plan;
 use pk_report::{summary, unknown_count, write_accesses, write_first, write_last, write_valid};
 use std::alloc::{AllocError, Global};
@@ -105,11 +106,11 @@ pub fn checked_of(
     Ok((bytes, unknown_count(&verdicts)))
 }
 
-/// The linear order of a graph's plan, without the line's end.
-pub fn order_of(alloc: Global, graph: &Graph) -> Result<Vec<u8>, AllocError>
-    ensures { IfOk result (λ bytes. IsOrderText (graph_view graph.now) bytes.items) }
+/// The linear order of a graph's plan, and its peak where it is asked for, without the last line's end.
+pub fn order_of(alloc: Global, graph: &Graph, with_peak: bool) -> Result<Vec<u8>, AllocError>
+    ensures { IfOk result (λ bytes. IsOrderText (graph_view graph.now) with_peak bytes.items) }
 {
     graph.well_made();
-    let (_, order) = ordered(alloc, &digraph(alloc, graph)?)?;
-    line(alloc, &order)
+    let (plan, order) = ordered(alloc, &digraph(alloc, graph)?)?;
+    order_lines(alloc, &plan, &order, with_peak)
 }

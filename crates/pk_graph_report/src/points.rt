@@ -9,6 +9,7 @@ ghost use Rattle.pk_solver.specs.Solved.{AreOver};
 use pk_analysis::{Options, States};
 use pk_graph::Graph;
 use pk_report::{head_marks, is_told, write_point};
+use pk_transfer::graphs_law;
 use std::alloc::{AllocError, Global};
 
 // The lines of a point, whose state is reduced for them alone.
@@ -26,6 +27,7 @@ fn write_known(
     ensures { OnOk result (bytes.new.items
         ≡ bytes.old.items ++ point_lines (graph_view graph.now) (state_at states.now point) is_head point) }
 {
+    graphs_law();
     let state = states.state(alloc, point)?;
     write_point(alloc, bytes, graph, &state, point, is_head)?;
     Ok(())

@@ -8,4 +8,6 @@ mod iterations;
 #[cfg(test)]
 mod orders;
 #[cfg(test)]
+mod peaks;
+#[cfg(test)]
 mod plans;

@@ -52,8 +52,8 @@ module _ (laws : Laws) where
       laws.reports.reports y.graph (options_of o) o.max_runs o.points m n a b (subst (λ (g : GraphOf). IsReport g (options_of o) o.max_runs o.points m a) same x.report) y.report
   one_told text (Order o) m n a b x y =
       let same = laws.graphs.graph text o.entry x.graph y.graph x.has_graph y.has_graph in
-      let line : x.line ≡ y.line = laws.reports.orders y.graph x.line y.line (subst (λ (g : GraphOf). IsOrderText g x.line) same x.order) y.order in
-      (x.none_unknown ∙ sym y.none_unknown, x.told ∙ ap (λ (l : List ℕ). l ++ codes "\n") line ∙ sym y.told)
+      let lines : x.lines ≡ y.lines = laws.reports.orders y.graph o.peak x.lines y.lines (subst (λ (g : GraphOf). IsOrderText g o.peak x.lines) same x.order) y.order in
+      (x.none_unknown ∙ sym y.none_unknown, x.told ∙ ap (λ (l : List ℕ). l ++ codes "\n") lines ∙ sym y.told)
   one_told text (Gen o) m n a b x y =
       let same = laws.graphs.graph text (codes "main") x.graph y.graph x.has_graph y.has_graph in
       laws.reports.summaries y.graph default_options default_runs o.seed o.size (length text) m n a b

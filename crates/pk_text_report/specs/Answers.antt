@@ -72,13 +72,13 @@ pub record IsRun (text : List ℕ) (options : RunOptions) (unknown : ℕ) (bytes
   pub has_graph : HasGraph text options.entry graph
   pub report : IsReport graph (options_of options) options.max_runs options.points unknown bytes
 
--- the linear order of the text's graph, as a line
+-- the linear order of the text's graph, and its peak where it is asked for, each as a line
 pub record IsOrder (text : List ℕ) (options : OrderOptions) (unknown : ℕ) (bytes : List ℕ) : Type 0 where
   pub graph : GraphOf
   pub has_graph : HasGraph text options.entry graph
-  pub line : List ℕ
-  pub order : IsOrderText graph line
-  pub told : bytes ≡ line ++ codes "\n"
+  pub lines : List ℕ
+  pub order : IsOrderText graph options.peak lines
+  pub told : bytes ≡ lines ++ codes "\n"
   pub none_unknown : unknown ≡ 0
 
 -- the summary of a made text

@@ -175,13 +175,13 @@ fn run_told<R: Threads + Wait + Sync, G: Gate + Sync>(
     }
 }
 
-// The order of a text.
+// The order of a text, and its peak where it is asked for.
 fn order_told(alloc: Global, options: &OrderOptions, text: &[u8]) -> Result<(Vec<u8>, u64), Status>
     ensures told { IfOk result (λ made. IsOrder text.now options.now made.1 made.0.items) }
     ensures stopped { IfErr result (IsStopped text.now (commands.Order options.now)) }
 {
     let graph = graph_of_text(alloc, text, options.entry.as_str())?;
-    let bytes = line_of(order_of(alloc, &graph)?)?;
+    let bytes = line_of(order_of(alloc, &graph, options.peak)?)?;
     Ok((bytes, 0))
 }
 

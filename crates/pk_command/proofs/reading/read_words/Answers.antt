@@ -2,7 +2,7 @@ use Rattle.std.proofs.Common.{ap, codes, inl, inr, map, refl, string_bytes}
 use Rattle.clap.specs.Words.{found_of, rows_of}
 use Rattle.pk_command.specs.CommandLine.{is_empty, is_taken}
 use Rattle.pk_command.specs.Given.{AsksFor}
-use Rattle.pk_command.proofs.Taken.{cert_in_range, cert_of_taken, gen_in_range, gen_of_taken, given_of_found, one_is_named, run_in_range, run_of_taken}
+use Rattle.pk_command.proofs.Taken.{cert_in_range, cert_of_taken, gen_in_range, gen_of_taken, given_of_found, one_is_named, order_of_taken, run_in_range, run_of_taken}
 use Rattle.pk_command.proofs.reading.read_words.Goals as goal
 
 pub run_options-requires : goal.run_options-requires
@@ -26,6 +26,13 @@ returns-in-Some-clause-command c =
     let rows = rows_of (found_of c.in-Some.found.now) in
     let given = given_of_found words c.in_ok-matches.matches (codes "run") rows c.in_ok-matches.ensures.given (c.in-Some.ensures.found.0 refl) c.in-Some.ensures.rows in
     (ap is_empty c.in_ok-matches.ensures.taken, (rows, (given, c.in_ok-run_options-in-Some.ensures)))
+
+pub order_options-requires : goal.order_options-requires
+order_options-requires c =
+    let words = map string_bytes c.args.words.now in
+    let rows = rows_of (found_of c.in-Some-subcommand_matches.found.now) in
+    order_of_taken words rows c.in_ok-matches.ensures.taken
+    (given_of_found words c.in_ok-matches.matches (codes "order") rows c.in_ok-matches.ensures.given (c.in-Some-subcommand_matches.ensures.found.0 refl) c.in-Some-subcommand_matches.ensures.rows)
 
 pub returns-in-Some-subcommand_matches-clause-command :
     goal.returns-in-Some-subcommand_matches-clause-command

@@ -3,14 +3,14 @@ use Rattle.std.proofs.Common.{sym, ap, subst, ◌∙◌}
 use Rattle.pk_graph.specs.Shown.{graph_view}
 use Rattle.pk_state.specs.Facts.{Stated}
 use Rattle.pk_report.specs.Reports.{point_lines}
-use Rattle.pk_graph_report.proofs.Lines.{values_there}
+use Rattle.pk_graph_report.proofs.Lines.{slots_there}
 use Rattle.pk_graph_report.proofs.Told.{state_so}
 use Rattle.pk_graph_report.proofs.points.write_known.Goals as goal
 
-pub write_point-requires-clause-layout : goal.write_point-requires-clause-layout
-write_point-requires-clause-layout c =
+pub write_point-requires-clause-slots : goal.write_point-requires-clause-slots
+write_point-requires-clause-slots c =
     let states = c.args.states.now in
-    values_there (graph_view c.args.graph.now) c.args.options states c.args.point c.in_ok-state.state c.requires.over
+    slots_there (graph_view c.args.graph.now) c.args.options states c.args.point c.in_ok-state.state c.graphs_law.ensures c.requires.over
     (subst (λ (n : ℕ). c.args.point < n) (sym c.requires.over.size) c.requires.point)
     (state_so states c.args.point c.in_ok-state.state c.in_ok-state.ensures)
 

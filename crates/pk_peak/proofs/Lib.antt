@@ -1,0 +1,6 @@
+mod Listing
+mod Numbering
+mod Reading
+mod Covering
+mod Peaking
+mod Determined

@@ -1,0 +1,5 @@
+pub mod Items
+pub mod Peak
+pub mod Readers
+pub mod Stretches
+pub mod Texts
