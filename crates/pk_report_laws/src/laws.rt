@@ -4,7 +4,10 @@ ghost use Rattle.pk_report_laws.specs.Runs.True.{AnswersAreTrue, CheckedCellsAre
 ghost use Rattle.pk_report_laws.specs.Programs.ToldOfPrograms.{ChecksAreTrueOfPrograms, ReportsAreTrueOfPrograms, TrueStatesAreTrueOfPrograms};
 ghost use Rattle.pk_report_laws.specs.Programs.Faultless.{ChecksAreFaultless, ProgramsAreFaultless, TrueStatesAreFaultless};
 
+use pk_access_texts::accesses_are_apart;
 use pk_cert_laws::{checked_cells_hold_runs, read_cells_hold_states};
+use pk_computed_texts::texts_computed_is_evaluated;
+use pk_folded_texts::texts_computed_accesses_are_evaluated;
 use pk_front::way_is_determined;
 use pk_sound::{bounds_hold, faults_are_unknown, result_holds_runs, verdicts_hold};
 use pk_text_graph::graphs_are_well_made;
@@ -37,7 +40,8 @@ pub fn checked_cells_are_true()
     checked_cells_hold_runs();
 }
 
-/// States that hold each run of a text's graph hold each visit of each run of the program, and each fault is at an access whose verdict by them is unknown.
+/// States that hold each run of a text's graph hold each visit of each run of the program, and each fault is at an access whose verdict by them is unknown. No two accesses are of one path, place and kind,
+/// and what is told unreachable no run computes.
 pub fn true_states_are_true_of_programs()
     ensures { TrueStatesAreTrueOfPrograms }
 {
@@ -47,6 +51,9 @@ pub fn true_states_are_true_of_programs()
     graphs_have_program_visits();
     programs_are_never_stuck();
     points_share_accesses();
+    accesses_are_apart();
+    texts_computed_is_evaluated();
+    texts_computed_accesses_are_evaluated();
 }
 
 /// So do those of a report.

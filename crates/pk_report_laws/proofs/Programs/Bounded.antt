@@ -4,17 +4,16 @@ use Rattle.std.specs.List.{AllZip}
 use Rattle.std.proofs.Common.{◌∙◌, ap, refl, sym, subst, arith}
 use Rattle.std.proofs.lemmas.Bool.Decides.{nat_tests}
 use Rattle.std.proofs.lemmas.Int.{ints}
-use Rattle.std.proofs.lemmas.List.{get_or_default, length-map}
+use Rattle.std.proofs.lemmas.List.{length-map}
 use Rattle.std.proofs.lemmas.List.Elements.{All-head, All-tail}
 use Rattle.std.proofs.lemmas.Option.{slice_get-map}
 use Rattle.pk_graph.specs.Graphs.{VariableOf, GraphOf, names_at, kinds_of}
 use Rattle.pk_graph.specs.Steps.{Numbers, number_at}
 use Rattle.pk_graph.specs.Stores.{Stored, numbers_of, IsStore}
-use Rattle.pk_value.specs.Known.{IsOf}
 use Rattle.pk_octmat.specs.Bounds.{AtMost}
 use Rattle.pk_octmat.specs.Octagon.{entry, side, Meets}
 use Rattle.pk_state.specs.Layouts.{Layout, place_in}
-use Rattle.pk_state.specs.Facts.{Facts, known_at}
+use Rattle.pk_state.specs.Facts.{Facts}
 use Rattle.pk_state.specs.Members.{number_if, selected}
 use Rattle.pk_sound.specs.Held.{Agrees, AgreesWith}
 use Rattle.pk_meaning.specs.Runs.{Known}
@@ -23,14 +22,14 @@ use Rattle.pk_report_laws.specs.Programs.ToldOfPrograms.{IsKnownAs, IsPlacedAt, 
 
 -- ---- ranges and classes
 
-known_as : (g : GraphOf) (l : Layout) (f : Facts) (s : Stored) (x : ℕ) → IsStore (kinds_of g) s → x < length g.variables → AgreesWith l f s → IsKnownAs g f x (known_of g s x)
+known_as : (g : GraphOf) (l : Layout) (f : Facts) (s : Stored) (x : ℕ) → IsStore (kinds_of g) s → x < length g.variables → AgreesWith l f s → IsKnownAs g l f x (known_of g s x)
 known_as g l f s x st there h = record {
   name = refl;
   count = st.counts x (let many = length-map g.variables (λ (v : VariableOf). v.kind) in omega (arith, there, many));
-  numbers = λ i d below. subst (IsOf (known_at f.values x)) (get_or_default (numbers_of s x) i (pos 0) d below) (h.values x i below);
+  numbers = λ i below. h.values x i below;
 }
 
-all_known : (g : GraphOf) (l : Layout) (f : Facts) (s : Stored) (xs : List ℕ) → IsStore (kinds_of g) s → All (λ x. x < length g.variables) xs → AgreesWith l f s → AllZip (IsKnownAs g f) xs (map (known_of g s) xs)
+all_known : (g : GraphOf) (l : Layout) (f : Facts) (s : Stored) (xs : List ℕ) → IsStore (kinds_of g) s → All (λ x. x < length g.variables) xs → AgreesWith l f s → AllZip (IsKnownAs g l f) xs (map (known_of g s) xs)
 all_known g l f s [] st there h = tt
 all_known g l f s (x ∷ xs) st there h =
     (known_as g l f s x st (All-head (λ (y : ℕ). y < length g.variables) x xs there) h, all_known g l f s xs st (All-tail (λ (y : ℕ). y < length g.variables) x xs there) h)

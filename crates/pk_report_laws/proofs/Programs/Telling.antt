@@ -4,7 +4,7 @@ use Rattle.std.specs.List.{filter}
 use Rattle.std.proofs.Common.{refl, sym, subst, inl, inr}
 use Rattle.std.proofs.lemmas.List.Elements.{All-nil, All-cons, All-get_or, All-contains, All-map, All-filter}
 use Rattle.pk_graph.specs.declared.verdicts.Verdict.TheVariants.{Unknown}
-use Rattle.pk_graph.specs.Accesses.{AccessOf, of_instr}
+use Rattle.pk_graph.specs.Accesses.{AccessOf, accesses_of, of_instr}
 use Rattle.pk_graph.specs.declared.graphs.Entry.{Entry}
 use Rattle.pk_graph.specs.Graphs.{EdgeOf, GraphOf, no_point, point_at, named_in, kinds_of}
 use Rattle.pk_graph.specs.declared.trees.Site.{Site}
@@ -16,6 +16,10 @@ use Rattle.pk_state.specs.Facts.{Stated}
 use Rattle.pk_sound.specs.Runs.{Reaches, begins, steps as step_of}
 use Rattle.pk_report.specs.Reports.{state_at}
 use Rattle.pk_sound.specs.Faults.{IsHidden, IsFailing}
+use Rattle.pk_access_laws.specs.Laws.{NoneTwice}
+use Rattle.pk_computed_laws.specs.Evaluated.{OperationsAreEvaluated}
+use Rattle.pk_folded_texts.specs.Texts.{AccessesThemselvesAreEvaluated}
+use Rattle.pk_report_laws.proofs.Programs.Reached.{reached as reached_by, none_computes}
 use Rattle.pk_report_laws.specs.Runs.True.{AreTrueOf, IsUnknownIn}
 use Rattle.pk_meaning.specs.Programs.{Program}
 use Rattle.pk_meaning.specs.Runs.{Visit}
@@ -137,12 +141,16 @@ module _ (g : GraphOf) (states : List Stated) (made : IsGraph g) (t : AreTrueOf 
       let all = reached 0 x.first x.others x.point x.last x.runs first in
       (subst (All (IsToldVisit g states)) (sym x.visits_are) (All-cons (IsToldVisit g states) (visit_at g 0 x.first) x.others (told 0 x.first first) all.0), ended x.point x.last end all.1 x.ends)
 
-pub true_of : (g : GraphOf) (states : List Stated) (p : Program) → IsGraph g → AreTrueOf g states → ((v : ℕ) → SharesAccesses v (point_at g v).edges) → HaveSameVisits p g → IsNeverStuck p → IsTrueOfProgram p g states
-true_of g states p made t share same on = record {
+pub true_of : (g : GraphOf) (states : List Stated) (p : Program) → IsGraph g → AreTrueOf g states → ((v : ℕ) → SharesAccesses v (point_at g v).edges) → HaveSameVisits p g → IsNeverStuck p → NoneTwice (accesses_of g) → OperationsAreEvaluated p g
+    → AccessesThemselvesAreEvaluated p g → IsTrueOfProgram p g states
+true_of g states p made t share same on once all themselves = record {
   runs = same;
   goes_on = on;
   points = t;
   walks = λ visits end x. walked g states made t share visits end (same.forward visits end x);
   visits = λ visits end x. (of_graph g states made t share visits end (same.forward visits end x)).0;
   faults = λ visits end x. (of_graph g states made t share visits end (same.forward visits end x)).1;
+  lines = once;
+  computed = reached_by p g states t all;
+  unreachable = none_computes p g states t themselves;
 }

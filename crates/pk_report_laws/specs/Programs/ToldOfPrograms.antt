@@ -5,12 +5,12 @@ use Rattle.pk_graph.specs.declared.verdicts.Verdict.TheVariants.{Unknown}
 use Rattle.pk_graph.specs.Accesses.{AccessOf, accesses_of, fault_of}
 use Rattle.pk_graph.specs.Graphs.{EdgeOf, GraphOf, point_at, names_at, kinds_of}
 use Rattle.pk_graph.specs.Kinds.{count_at}
-use Rattle.pk_graph.specs.Steps.{Numbers, Failure, To, effect}
+use Rattle.pk_graph.specs.Steps.{Numbers, number_at, Failure, To, effect}
 use Rattle.pk_graph.specs.Stores.{Stored, storing}
 use Rattle.pk_value.specs.Known.{IsOf}
 use Rattle.pk_octmat.specs.Bounds.{AtMost}
 use Rattle.pk_octmat.specs.Octagon.{entry}
-use Rattle.pk_state.specs.Layouts.{Layout, place_in}
+use Rattle.pk_state.specs.Layouts.{Layout, place_in, slot_of}
 use Rattle.pk_state.specs.Facts.{Facts, Stated, known_at}
 use Rattle.pk_plan.specs.Plans.{PlanView}
 use Rattle.pk_analysis.specs.declared.analysis.Options.{Options}
@@ -24,18 +24,22 @@ use Rattle.pk_meaning.specs.Runs.{Known, Visit}
 use Rattle.pk_visits.specs.GraphVisits.{Begins, is_visit, visit_at}
 use Rattle.pk_visits.specs.SameVisits.{ProgramVisits, EndsAt, HaveSameVisits}
 use Rattle.pk_visits.specs.NeverStuck.{IsNeverStuck}
+use Rattle.pk_access_laws.specs.Laws.{NoneTwice}
 use Rattle.pk_report_laws.specs.Runs.True.{AreTrueOf}
+use Rattle.pk_report_laws.specs.Programs.Reached.{OperationsAreReached, UnreachableIsNotComputed}
 use Rattle.pk_text_graph.specs.Graphs.{HasGraph}
 use Rattle.pk_transfer.specs.Graphs.{layout_of}
 use Rattle.pk_cert_report.specs.Checked.{reduced_states, IsValid}
 
 -- ---- visits
 
--- What a visit knows of a name is what the line of its variable tells, `NAME [lo,hi] mZ+r`: as many numbers as the variable has, one of a scalar and those of an array's elements, each of which lies in the range and in the class.
-pub record IsKnownAs (g : GraphOf) (f : Facts) (variable : ℕ) (k : Known) : Type 0 where
+-- What a visit knows of a name is what the lines of its variable tell: as many numbers as the variable has, one of a scalar and those of an array's elements. Each lies in the range
+-- and in the class of its line: `NAME [lo,hi] mZ+r` of a scalar, `NAME[] ..` of each element of an array, and `NAME[i] ..` of element i alone where there are at most eight.
+pub record IsKnownAs (g : GraphOf) (l : Layout) (f : Facts) (variable : ℕ) (k : Known) : Type 0 where
   pub name : name_of g variable ≡ k.name
   pub count : length k.numbers ≡ count_at (kinds_of g) variable
-  pub numbers : All (IsOf (known_at f.values variable)) k.numbers
+  pub numbers : (i : ℕ) → i < length k.numbers →
+      IsOf (known_at f.values (slot_of l variable i)) (number_at k.numbers i)
 
 -- name i of a visit of the point is that of variable k of the octagon, and holds z
 pub record IsPlacedAt (g : GraphOf) (l : Layout) (point : ℕ) (v : Visit) (i k : ℕ) (z : ℤ) : Type 0 where
@@ -55,7 +59,7 @@ pub record AreBounded (bound : ℕ → ℕ → Option ℤ) (k m : ℕ) (x y : �
 pub record IsToldAt (g : GraphOf) (l : Layout) (f : Facts) (point : ℕ) (v : Visit) : Type 0 where
   pub path : (point_at g point).path ≡ v.path
   pub place : (point_at g point).at ≡ v.at
-  pub values : AllZip (IsKnownAs g f) (names_at g point) v.known
+  pub values : AllZip (IsKnownAs g l f) (names_at g point) v.known
   pub pairs : (i j k m : ℕ) (x y : ℤ) → IsPlacedAt g l point v i k x → IsPlacedAt g l point v j m y →
       AreBounded (entry f.octagon) k m x y
 
@@ -119,6 +123,7 @@ IsToldEnd g states (Some f) = IsToldFault g states f
 
 -- The program and its graph have the same visits, no run of the program is stuck, and no run of the graph leaves what is told of the points that it comes to.
 -- So each visit of each run is told, and the fault at its end if there is one. Several points can have one place: the run of the graph tells which of them a visit is at.
+-- No two lines of accesses are of one path, place and kind; what a run computes has a line that isn't unreachable, and what is told unreachable no run computes.
 pub record IsTrueOfProgram (p : Program) (g : GraphOf) (states : List Stated) : Type 0 where
   pub runs : HaveSameVisits p g
   pub goes_on : IsNeverStuck p
@@ -128,6 +133,9 @@ pub record IsTrueOfProgram (p : Program) (g : GraphOf) (states : List Stated) : 
   pub visits : (visits : List Visit) (end : Option Failure) → ProgramVisits p visits end →
       All (IsToldVisit g states) visits
   pub faults : (visits : List Visit) (end : Option Failure) → ProgramVisits p visits end → IsToldEnd g states end
+  pub lines : NoneTwice (accesses_of g)
+  pub computed : OperationsAreReached p g states
+  pub unreachable : UnreachableIsNotComputed p g states
 
 -- the program that a text is, with its call paths
 abbrev pub program_of : {text entry : List ℕ} {g : GraphOf} → HasGraph text entry g → Program

@@ -19,3 +19,4 @@ returns c = λ text entry g h states true_are.
     (subst (λ (x : GraphOf). (v : ℕ) → SharesAccesses v (point_at x v).edges) (sym h.graph) (c.points_share_accesses.ensures h.unit entry h.paths unit marked h.called.called.0 h.few))
     (subst (λ (x : GraphOf). HaveSameVisits (program_of h) x) (sym h.graph) both)
     (c.programs_are_never_stuck.ensures h.unit entry h.paths unit marked h.called.called.0 h.few)
+    (c.accesses_are_apart.ensures text entry g h) (c.texts_computed_is_evaluated.ensures text entry g h) (c.texts_computed_accesses_are_evaluated.ensures text entry g h)
