@@ -14,7 +14,7 @@ use pk_graph::{Site, Tree};
 use std::alloc::{AllocError, Global};
 
 // The number of a constant.
-#[tactic(auto, using(crate::proofs::FoldingLemmas::of_constant, crate::proofs::FoldingLemmas::of_variable, crate::proofs::FoldingLemmas::of_converted, crate::proofs::FoldingLemmas::of_unary, crate::proofs::FoldingLemmas::of_binary))]
+#[tactic(auto, using(crate::proofs::FoldingLemmas::of_constant))]
 fn number_in(tree: &Tree) -> Option<i128>
     ensures { result ≡ folding.number_in (tree_view tree.now) }
 {

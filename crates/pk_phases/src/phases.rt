@@ -36,7 +36,8 @@ fn narrow_or_end(delay: u32, narrow: u32, settled: bool) -> Decision<Phase>
     }
 }
 
-/// What an exit decides: `below` says that the new value is below the head's, `settled` that narrowing would not change the head's. So often as `delay` the head joins before it widens, and so often as `narrow` it is narrowed.
+/// What an exit decides: `below` says that the new value is below the head's, `settled` that narrowing would not change the head's.
+/// So often as `delay` the head joins before it widens, and so often as `narrow` it is narrowed.
 pub fn decision(
     delay: u32,
     narrow: u32,

@@ -769,7 +769,7 @@ fn conditional<'a>(
     ))
 }
 
-#[tactic(auto, unfolding(pk_runner_frame::specs::Frames::work_in, pk_runner_frame::specs::Frames::expression_in, pk_runner_frame::specs::Frames::task_in, pk_typed::specs::Views::value_tree, pk_runner_state::specs::Shown::shown))]
+#[tactic(auto, unfolding(crate::proofs::Shown::work_in, crate::proofs::Shown::expression_in, crate::proofs::Shown::task_in, crate::proofs::Shown::value_tree, crate::proofs::Shown::shown))]
 fn evaluate_tree<'a>(
     program: &Program<'a>,
     state: &mut State<'a>,
