@@ -47,7 +47,7 @@ fn numbers<'a>(known: &'a [Known<'_>], name: &str) -> &'a [i128] {
     &[]
 }
 
-// Whether the numbers lie in the range and the class that end the line of their name, as `i [1,10] 2Z+1`.
+// Whether the numbers lie in the range and the class that end a line of their name, as `i [1,10] 2Z+1`.
 fn are_in(numbers: &[i128], bounds: &[i128]) -> bool {
     let [.., low, high, step, first] = bounds else {
         return false;
@@ -98,9 +98,31 @@ fn holds(alloc: Global, line: &str, known: &[Known<'_>]) -> Result<bool, AllocEr
             },
         });
     }
-    let (name, _) = line.split_once(" [").unwrap_or((line, line));
-    let (name, _) = name.split_once("[]").unwrap_or((name, name));
-    Ok(are_in(numbers(known, name), &bounds))
+    let (subject, _) = line.split_once(" [").unwrap_or((line, line));
+    let Some((name, mark)) = subject.split_once("[") else {
+        return Ok(are_in(numbers(known, subject), &bounds));
+    };
+    Ok(match integers(alloc, mark)?.first() {
+        None => are_in(numbers(known, name), &bounds),
+        Some(element) => match usize::try_from(*element) {
+            Err(_) => false,
+            Ok(element) => match numbers(known, name).get(element) {
+                None => false,
+                Some(number) => are_in(&[*number], &bounds),
+            },
+        },
+    })
+}
+
+// Whether a line is the first of its name: it has no element, or the first.
+fn is_first(line: &str) -> bool {
+    match line.split_once(" [") {
+        None => false,
+        Some((subject, _)) => match subject.split_once("[") {
+            None => true,
+            Some((_, mark)) => mark == "]" || mark == "0]",
+        },
+    }
 }
 
 /// Whether the report has a point whose heading ends so, with the lines of so many names, and each of its lines holds.
@@ -120,7 +142,7 @@ pub fn tells(
             if !holds(alloc, line, known)? {
                 return Ok(false);
             }
-            if line.split_once(" [").is_some() {
+            if is_first(line) {
                 left = left.wrapping_sub(1);
             }
         } else {
