@@ -23,7 +23,7 @@ use Rattle.pk_analysis_fits.specs.Analyses.{behaviour_in, AnalysesFit, AnalysesK
 use Rattle.pk_analysis_fits.proofs.Scheduling.{every_order, as_iterated}
 
 -- what an element is by the components: nothing of them, a head with its exit, or an exit with its head
-abbrev IsPartOf : List Component → ℕ → Part → Type 0
+abbrev pub IsPartOf : List Component → ℕ → Part → Type 0
 IsPartOf cs e Point = Unit {0}
 IsPartOf cs e (HeadOf exit) = (c : Component) × Contains cs c × (c.head ≡ e) × (c.exit ≡ exit)
 IsPartOf cs e (ExitOf head) = (c : Component) × Contains cs c × (c.exit ≡ e) × (c.head ≡ head)
@@ -33,7 +33,7 @@ later_part d cs e Point is = tt
 later_part d cs e (HeadOf exit) is = (is.0, contains_there d cs is.1, is.2, is.3)
 later_part d cs e (ExitOf head) is = (is.0, contains_there d cs is.1, is.2, is.3)
 
-part_of : (cs : List Component) (e : ℕ) → IsPartOf cs e (part_in cs e)
+pub part_of : (cs : List Component) (e : ℕ) → IsPartOf cs e (part_in cs e)
 part_of [] e = tt
 part_of (d ∷ cs) e = elim (eqb_tells d.head e) [
   | inl equal ↦ rw equal.0 (d, contains_here d cs, equal.1, refl)
@@ -44,12 +44,12 @@ part_of (d ∷ cs) e = elim (eqb_tells d.head e) [
 ]
 
 -- what an element of this part reads
-abbrev reads_by : GraphOf → ℕ → Part → List ℕ
+abbrev pub reads_by : GraphOf → ℕ → Part → List ℕ
 reads_by g e Point = origins (arrows_at g e)
 reads_by g e (HeadOf exit) = exit ∷ (e ∷ origins (arrows_at g e))
 reads_by g e (ExitOf head) = e ∷ (head ∷ origins (arrows_at g head))
 
-by_graph : (a : Flow) (e : ℕ) (part : Part) → reads_in (equations_of a) e part ≡ reads_by (graph_view a.graph) e part
+pub by_graph : (a : Flow) (e : ℕ) (part : Part) → reads_in (equations_of a) e part ≡ reads_by (graph_view a.graph) e part
 by_graph a e Point = refl
 by_graph a e (HeadOf exit) = refl
 by_graph a e (ExitOf head) = refl

@@ -1,0 +1,3 @@
+pub mod Kept
+pub mod In_order
+pub mod Laws
