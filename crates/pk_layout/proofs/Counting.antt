@@ -1,5 +1,5 @@
 -- How often an element stands in the first items of a list.
-use Rattle.std.proofs.Common.{◌≡◌, ◌≢◌, ℕ, zero, suc, ◌+◌, ◌<◌, ◌≤◌, ◌==◌, List, [], ◌∷◌, length, take, get_or, true, false, cond, refl, sym, subst, arith, add-one, sum, inl, inr, ◌⊎◌, get_or-set_other, get_or-set_same}
+use Rattle.std.proofs.Common.{◌≡◌, ◌≢◌, ℕ, zero, suc, ◌+◌, ◌<◌, ◌≤◌, ◌==◌, List, [], ◌∷◌, length, take, get_or, Bool, true, false, cond, refl, sym, ap, subst, ◌∙◌, arith, add-one, sum, inl, inr, ◌⊎◌, get_or-set_other, get_or-set_same}
 use lib.ListN.{set}
 use Rattle.std.proofs.lemmas.Bool.Decides.{eqb_tells}
 use Rattle.std.proofs.lemmas.List.Sums.{count_by_more_yes, count_by_more_no, sum_by-cons, sum_by-take-le, sum_by-set, sum_by_more}
@@ -31,6 +31,38 @@ times_all e xs i h = sum_by-take-le (λ y. cond (y == e) 1 0) xs i
 
 pub times_next : (xs : List ℕ) (i : ℕ) → i < length xs → times (get_or xs i 0) (take (i + 1) xs) ≡ times (get_or xs i 0) (take i xs) + 1
 times_next xs i h = count_by_more_yes (λ x. x == get_or xs i 0) xs i 0 h (equals_itself (get_or xs i 0))
+
+abbrev one_at : ℕ → ℕ → ℕ
+one_at u x = cond (x == u) 1 0
+
+counts_one : (x u : ℕ) → x ≡ u → one_at u x ≡ 1
+counts_one x u same = ap (λ (y : ℕ). one_at u y) same ∙ ap (λ (c : Bool). cond {A = ℕ} c 1 0) (equals_itself u)
+
+counts_none : (x u : ℕ) → x ≢ u → one_at u x ≡ 0
+counts_none x u other = ap (λ (c : Bool). cond {A = ℕ} c 1 0) (differs x u other)
+
+-- where an element stands for the time after i others
+nth_time : (u : ℕ) (xs : List ℕ) (i : ℕ) → i < times u xs → (j : ℕ) × (j < length xs) × (get_or xs j 0 ≡ u) × (times u (take (suc j) xs) ≡ suc i)
+nth_time u [] i h = absurd (omega (arith, h))
+nth_time u (x ∷ xs) zero h = elim (same_or_not x u) [
+  | inl same ↦ (0, omega arith, same, omega (arith, counts_one x u same, sum_by-cons (one_at u) x []))
+  | inr other ↦ (
+      let it = nth_time u xs zero (omega (arith, h, sum_by-cons (one_at u) x xs, counts_none x u other)) in
+      (suc it.0, omega (arith, it.1), it.2, omega (arith, it.3, sum_by-cons (one_at u) x (take (suc it.0) xs), counts_none x u other)))
+]
+nth_time u (x ∷ xs) (suc i) h = elim (same_or_not x u) [
+  | inl same ↦ (
+      let it = nth_time u xs i (omega (arith, h, sum_by-cons (one_at u) x xs, counts_one x u same)) in
+      (suc it.0, omega (arith, it.1), it.2, omega (arith, it.3, sum_by-cons (one_at u) x (take (suc it.0) xs), counts_one x u same)))
+  | inr other ↦ (
+      let it = nth_time u xs (suc i) (omega (arith, h, sum_by-cons (one_at u) x xs, counts_none x u other)) in
+      (suc it.0, omega (arith, it.1), it.2, omega (arith, it.3, sum_by-cons (one_at u) x (take (suc it.0) xs), counts_none x u other)))
+]
+
+pub time_at : (u : ℕ) (xs : List ℕ) (i : ℕ) → i < times u xs → (j : ℕ) × (j < length xs) × (get_or xs j 0 ≡ u) × (times u (take (j + 1) xs) ≡ i + 1)
+time_at u xs i h =
+    let it = nth_time u xs i h in
+    (it.0, it.1, it.2, ap (λ (k : ℕ). times u (take k xs)) (add-one it.0) ∙ it.3 ∙ sym (add-one i))
 
 -- one item more is counted
 pub counted_more : (base : ℕ → ℕ) (counts targets : List ℕ) (j m : ℕ) → j < length targets → get_or targets j 0 < length counts

@@ -8,7 +8,7 @@ use Rattle.pk_iterate.specs.Behaviour.{Behaviour, ReadsWithin}
 use Rattle.pk_layout.specs.Gathered.{gathered, AreStarts, stretch, owners_in, owned_by, times, slot_of_read, AreGiven, written}
 use Rattle.pk_layout.specs.Layouts.{IsLaidOut, laid}
 use Rattle.pk_layout.proofs.Lists.{gathered_all, length_more, no_longer, stands_at, lies_in}
-use Rattle.pk_layout.proofs.Counting.{same_or_not, times_up, times_all, times_next, long_owned}
+use Rattle.pk_layout.proofs.Counting.{same_or_not, time_at, times_up, times_all, times_next, long_owned}
 use Rattle.std.proofs.lemmas.List.Sums.{sum_by-take-le}
 use Rattle.pk_layout.proofs.Giving_more.{HaveSlots, AreWritten, are_written}
 
@@ -183,6 +183,35 @@ laid_out {b = b} {n = n} {counts = counts} {first = first} {from = from} inputs 
         slice_get-get_or (b.reads e) place 0 in_range ∙ ap Some (sym own),
         ap (λ (m : ℕ). get_or readers m 0) slot ∙ who.here j below ∙ source_is j ∙ r.source,
       ));
+  no_other = λ k in_range. elim (who.changed k) [
+    | inl was ↦ (
+        let it = stretch k in_range in
+        let own = owner_is it.0 k it.1 it.2 it.3 in
+        elim (same_or_not k (get_or first it.0 0)) [
+          | inl same ↦ inl (same ∙ ap (λ (u : ℕ). get_or first u 0) (sym own ∙ sym was), sym was)
+          | inr further ↦ (
+              let i = k - get_or first it.0 0 - 1 in
+              let count = parts.counted it.0 it.1 in
+              let wide = length-replicate (get_or counts it.0 0 + 1) it.0 in
+              let time = time_at it.0 (gathered b.reads n) i (omega (arith, further, it.2, it.3, start it.0 (omega (arith, it.1)), start (it.0 + 1) (omega (arith, it.1)), length_more lists it.0, wide, count)) in
+              let is : slot_of_read first (gathered b.reads n) time.0 ≡ k =
+              ap (λ (u : ℕ). get_or first u 0 + times u (take (time.0 + 1) (gathered b.reads n))) time.2 ∙ omega (arith, time.3, further, it.2) in
+              inr (read_slot k time.0 time.1 is (ap (λ (m : ℕ). get_or readers m 0) (sym is) ∙ who.here time.0 time.1)))
+        ])
+    | inr got ↦ inr (read_slot k got.0 got.1 got.2 got.3)
+  ];
+  apart = λ e i j h before within same. (
+      let one = slot_of_place e i h (omega (arith, before, within)) in
+      let other = slot_of_place e j h within in
+      (have_slots parts).apart (length (gathered b.reads e) + i) (length (gathered b.reads e) + j) (omega (arith, before)) other.0 (sym one.1 ∙ same ∙ other.1));
+  further = λ e place u h within low same. (
+      let at = slot_of_place e place h within in
+      let own = slot_at parts (length (gathered b.reads e) + place) at.0 in
+      let v = get_or (gathered b.reads n) (length (gathered b.reads e) + place) 0 in
+      elim (cases_lt v u) [
+        | inl less ↦ omega (arith, same, at.1, own.upto, start u (omega (arith, low)), no_longer lists (v + 1) u (omega (arith, less)))
+        | inr more ↦ omega (arith, same, at.1, own.from, start u (omega (arith, low)), no_longer lists u v (omega (arith, more)))
+      ]);
 }
   where
     lists : ℕ → List ℕ
@@ -206,6 +235,24 @@ laid_out {b = b} {n = n} {counts = counts} {first = first} {from = from} inputs 
         let have : HaveSlots first g (length (owners_in first)) = subst (HaveSlots first g) (sym (ap length owned_all)) (have_slots parts) in
         subst (λ (k : ℕ). AreWritten first g (owners_in from) (owners_in first) (length g) (written (owners_in first) inputs (owners_in from) k)) (sym given.long)
         (are_written first g (owners_in from) (owners_in first) inputs have given (length g) (omega arith))
+
+    -- the slot of a read is one of what its reader reads
+    read_slot : (k j : ℕ) → j < length (gathered b.reads n) → slot_of_read first (gathered b.reads n) j ≡ k → get_or readers k 0 ≡ get_or (owners_in from) j 0
+        → (place : ℕ) × (place < length (b.reads (get_or readers k 0))) × (k ≡ get_or inputs (get_or from (get_or readers k 0) 0 + place) 0)
+    read_slot k j below is by =
+        let r = read_at b n j below in
+        let reader : get_or readers k 0 ≡ r.reader = by ∙ source_is j ∙ r.source in
+        let at : get_or from r.reader 0 + r.place ≡ j = omega (arith, r.at, parts.from.each r.reader (omega (arith, r.below))) in
+        let slot : k ≡ get_or inputs (get_or from r.reader 0 + r.place) 0 = sym is ∙ sym (given.each j below) ∙ ap (λ (m : ℕ). get_or inputs m 0) (sym at) in
+        subst (λ (e : ℕ). (place : ℕ) × (place < length (b.reads e)) × (k ≡ get_or inputs (get_or from e 0 + place) 0)) (sym reader) (r.place, r.within, slot)
+
+    -- the slot of what an element reads at a place is that of a read
+    slot_of_place : (e place : ℕ) → e < n → place < length (b.reads e)
+        → (length (gathered b.reads e) + place < length (gathered b.reads n)) × (get_or inputs (get_or from e 0 + place) 0 ≡ slot_of_read first (gathered b.reads n) (length (gathered b.reads e) + place))
+    slot_of_place e place h within =
+        let j = length (gathered b.reads e) + place in
+        let below : j < length (gathered b.reads n) = omega (arith, within, length_more b.reads e, no_longer b.reads (e + 1) n (omega (arith, h))) in
+        (below, ap (λ (m : ℕ). get_or inputs (m + place) 0) (parts.from.each e (omega (arith, h))) ∙ given.each j below)
 
     start : (e : ℕ) → e ≤ n → get_or first e 0 ≡ length (gathered (owned_by counts) e)
     start e h = parts.first.each e h

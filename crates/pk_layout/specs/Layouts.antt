@@ -1,5 +1,5 @@
 -- The slots of a board: each element has one for its own cell, and one more for each read of that cell.
-use Rattle.std.specs.Prelude.{◌≡◌, ℕ, ◌+◌, ◌<◌, ◌≤◌, ◌⊎◌, List, length, Some, slice_get, slice_index, Contains}
+use Rattle.std.specs.Prelude.{◌≡◌, ◌≢◌, ℕ, ◌+◌, ◌<◌, ◌≤◌, ◌⊎◌, List, length, Some, slice_get, slice_index, Contains}
 use Rattle.pk_iterate.specs.Behaviour.{Behaviour}
 use Rattle.pk_layout.specs.Gathered.{owners_in, written}
 
@@ -66,3 +66,11 @@ pub record IsLaidOut {C : Type 0} (b : Behaviour C) (elements : ℕ) (l : Layout
   pub long_inputs : length l.inputs_from ≡ elements + 1
   pub within : (e : ℕ) → e < elements → slice_index l.inputs_from e + length (b.reads e) ≤ length l.inputs
   pub inputs : (e place : ℕ) → e < elements → place < length (b.reads e) → IsInputSlot b l e place (input_of l e place)
+  -- there are no slots but each element's first, and those of what it reads
+  pub no_other : (k : ℕ) → k < slots_of l
+      → ((k ≡ first_of l (reader_of l k)) × (owner_of l k ≡ reader_of l k))
+      ⊎ ((place : ℕ) × (place < length (b.reads (reader_of l k))) × (k ≡ input_of l (reader_of l k) place))
+  -- and no two of these are one
+  pub apart : (e i j : ℕ) → e < elements → i < j → j < length (b.reads e) → input_of l e i ≢ input_of l e j
+  pub further : (e place u : ℕ) → e < elements → place < length (b.reads e) → u < elements
+      → input_of l e place ≢ first_of l u

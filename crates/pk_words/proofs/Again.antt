@@ -57,7 +57,7 @@ done_now Done h = refl
 abbrev pub armings_more : {S : Type 0} → Wiring → TableState S View → ℕ → ℕ → ℕ
 armings_more w ts x u = armings w ts u + count_by (λ e. e == u) (members_at w.plan x)
 
-again_changes : {C S : Type 0} {b : Behaviour C} {w : Wiring} {value : S → C} {s : State C} {ts : TableState S View} (run : Made C) (id x n : ℕ) (v : View) → IsWired b w → Shows b w value s ts → Kept (shape_of w.plan) (settled s) → get_elem? ts.views id ≡ some v → x < w.plan.elements → exits w.plan x ≡ true → 0 < times x v.holds → number_of x v.holds < w.limit
+again_changes : {C S : Type 0} {b : Behaviour C} {w : Wiring} {value : S → C → Type 0} {s : State C} {ts : TableState S View} (run : Made C) (id x n : ℕ) (v : View) → IsWired b w → Shows b w value s ts → Kept (shape_of w.plan) (settled s) → get_elem? ts.views id ≡ some v → x < w.plan.elements → exits w.plan x ≡ true → 0 < times x v.holds → number_of x v.holds < w.limit
     → n ≡ (number_of x v.holds + 1) * 1048576 + inner (shape_of w.plan) x x
     → Changes w s (after_run (shape_of w.plan) s x true run) (armings w ts) (armings_more w ts x) x n v (again_view x n (length (members_at w.plan x)) v)
 again_changes {C} {S} {b} {w} {value} {s} {ts} run id x n v wired sh k at below exit mine room n_is = record {
@@ -221,10 +221,10 @@ again_changes {C} {S} {b} {w} {value} {s} {ts} run id x n v wired sh k at below 
         ]
 
 -- what is out goes home with the new cell
-pub went_again : {C S : Type 0} (b : Behaviour C) (w : Wiring) (value : S → C) (ts : TableState S View) (id x n : ℕ) (v : View) (xs : List (ℕ × S)) (c : C) → (board : IsBoard b w value ts) → get_elem? ts.views id ≡ some v → x < w.plan.elements → exits w.plan x ≡ true → 0 < times x v.holds → number_of x v.holds < w.limit
+pub went_again : {C S : Type 0} (b : Behaviour C) (w : Wiring) (value : S → C → Type 0) (ts : TableState S View) (id x n : ℕ) (v : View) (xs : List (ℕ × S)) (c : C) → (board : IsBoard b w value ts) → get_elem? ts.views id ≡ some v → x < w.plan.elements → exits w.plan x ≡ true → 0 < times x v.holds → number_of x v.holds < w.limit
     → n ≡ (number_of x v.holds + 1) * 1048576 + inner (shape_of w.plan) x x
     → length ts.homes ≡ slots_of w.layout → v.out ≡ slots_in xs
-    → AllRight (λ k y. (value y ≡ c) × (owner_of w.layout k ≡ x)) xs
+    → AllRight (λ k y. (value y c) × (owner_of w.layout k ≡ x)) xs
     → ((k : ℕ) → k < slots_of w.layout → owner_of w.layout k ≡ x → has k (slots_in xs) ≡ true)
     → IsGiven b true true x (inputs_of b (played b (shape_of w.plan) (start (shape_of w.plan)) board.events) x) c
     → IsBoard b w value (record { words = set ts.words (x + 2) n; homes = homes_after ts.homes xs (gives_all (length xs)); views = set ts.views id (again_view x n (length (members_at w.plan x)) v) })
@@ -241,9 +241,9 @@ went_again {C} {S} b w value ts id x n v xs c board at below exit mine room n_is
     is_held : (core x).status ≡ Held
     is_held = held board.shows id x v at below mine
 
-    right : (ys : List (ℕ × S)) → AllRight (λ k y. (value y ≡ c) × (owner_of w.layout k ≡ x)) ys → AllRight (λ k y. value y ≡ cell_in b (after_run (shape_of w.plan) core x true (decided b core x)) (owner_of w.layout k)) ys
+    right : (ys : List (ℕ × S)) → AllRight (λ k y. (value y c) × (owner_of w.layout k ≡ x)) ys → AllRight (λ k y. value y (cell_in b (after_run (shape_of w.plan) core x true (decided b core x)) (owner_of w.layout k))) ys
     right [] h = tt
     right (y ∷ ys) h = (
-      h.0.0 ∙ sym given.0 ∙ sym (ap (λ (e : Element C). newest (b.first x) e.made) (again_own (shape_of w.plan) core x (decided b core x))) ∙ ap (λ (j : ℕ). cell_in b (after_run (shape_of w.plan) core x true (decided b core x)) j) (sym h.0.1),
+      subst (value y.1) (sym given.0 ∙ sym (ap (λ (e : Element C). newest (b.first x) e.made) (again_own (shape_of w.plan) core x (decided b core x))) ∙ ap (λ (j : ℕ). cell_in b (after_run (shape_of w.plan) core x true (decided b core x)) j) (sym h.0.1)) h.0.0,
       right ys h.1,
     )

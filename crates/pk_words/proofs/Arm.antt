@@ -29,14 +29,14 @@ abbrev pub armings_less : {S : Type 0} → Wiring → TableState S View → ℕ 
 armings_less w ts e u = if u == e then 0 else armings w ts u
 
 -- a pass has one Resetting of an exit
-pub one_reset : {C S : Type 0} {b : Behaviour C} {w : Wiring} {value : S → C} {s : State C} {ts : TableState S View} → IsWired b w → Shows b w value s ts → (id x : ℕ) (v : View) → get_elem? ts.views id ≡ some v → 0 < times x v.resets → times x v.resets ≤ 1
+pub one_reset : {C S : Type 0} {b : Behaviour C} {w : Wiring} {value : S → C → Type 0} {s : State C} {ts : TableState S View} → IsWired b w → Shows b w value s ts → (id x : ℕ) (v : View) → get_elem? ts.views id ≡ some v → 0 < times x v.resets → times x v.resets ≤ 1
 one_reset {C} {S} {b} {w} {value} {s} {ts} wired sh id x v at mine =
     let r = sh.restarts id v at x mine in
     let one = part (λ (z : View). times (head_of w.plan x) z.holds + heading (head_of w.plan) (head_of w.plan x) z.resets) ts.views id v at in
     omega (arith, one, sh.held_once (head_of w.plan x) (head_below wired x r.2.exit), held_most (s (head_of w.plan x)).status, heading_most (head_of w.plan) x v.resets)
 
 -- the member at the place `left` is still to be armed, once
-pub armed_at : {C S : Type 0} {b : Behaviour C} {w : Wiring} {value : S → C} {s : State C} {ts : TableState S View} → Shows b w value s ts → (id x left : ℕ) (v : View) → get_elem? ts.views id ≡ some v → 0 < times x v.resets → number_of x v.resets ≡ left + 1 → armings w ts (get_or (members_at w.plan x) left 0) ≡ 1
+pub armed_at : {C S : Type 0} {b : Behaviour C} {w : Wiring} {value : S → C → Type 0} {s : State C} {ts : TableState S View} → Shows b w value s ts → (id x left : ℕ) (v : View) → get_elem? ts.views id ≡ some v → 0 < times x v.resets → number_of x v.resets ≡ left + 1 → armings w ts (get_or (members_at w.plan x) left 0) ≡ 1
 armed_at {C} {S} {b} {w} {value} {s} {ts} sh id x left v at mine number =
     let e : ℕ = get_or (members_at w.plan x) left 0 in
     let in_range : left < length (members_at w.plan x) = omega (arith, number, (sh.restarts id v at x mine).1) in
@@ -46,7 +46,7 @@ armed_at {C} {S} {b} {w} {value} {s} {ts} sh id x left v at mine number =
     ap (λ (j : ℕ). count_by (λ u. u == e) (take j (members_at w.plan x))) number' ∙ counted_more e left (members_at w.plan x) in_range ∙ ap (λ (c : Bool). count_by (λ u. u == e) (take left (members_at w.plan x)) + cond c 1 0) (itself e) in
     omega (arith, here, counted, part (λ (z : View). pending (members_at w.plan) e z.resets) ts.views id v at, sh.armed_once e)
 
-arm_changes : {C S : Type 0} {b : Behaviour C} {w : Wiring} {value : S → C} {s : State C} {ts : TableState S View} (id x left n : ℕ) (v v' : View) → Shows b w value s ts → get_elem? ts.views id ≡ some v → 0 < times x v.resets → number_of x v.resets ≡ left + 1
+arm_changes : {C S : Type 0} {b : Behaviour C} {w : Wiring} {value : S → C → Type 0} {s : State C} {ts : TableState S View} (id x left n : ℕ) (v v' : View) → Shows b w value s ts → get_elem? ts.views id ≡ some v → 0 < times x v.resets → number_of x v.resets ≡ left + 1
     → n ≡ word_of (s (get_or (members_at w.plan x) left 0))
     → ((u : ℕ) → pending (members_at w.plan) u v'.resets ≡ count_by (λ e. e == u) (take left (members_at w.plan x)) + pending (members_at w.plan) u (drop_one x v.resets))
     → ((u : ℕ) → times u v'.holds + heading (head_of w.plan) u v'.resets ≡ times u v.holds + heading (head_of w.plan) u v.resets)
@@ -99,14 +99,14 @@ arm_changes {C} {S} {b} {w} {value} {s} {ts} id x left n v v' sh at mine number 
     ]
 
 -- what arming finds
-pub done_found : {C S : Type 0} (b : Behaviour C) (w : Wiring) (value : S → C) (ts : TableState S View) (id x left : ℕ) (v : View) → (board : IsBoard b w value ts) → get_elem? ts.views id ≡ some v → 0 < times x v.resets → number_of x v.resets ≡ left + 1 → get_or (members_at w.plan x) left 0 < w.plan.elements
+pub done_found : {C S : Type 0} (b : Behaviour C) (w : Wiring) (value : S → C → Type 0) (ts : TableState S View) (id x left : ℕ) (v : View) → (board : IsBoard b w value ts) → get_elem? ts.views id ≡ some v → 0 < times x v.resets → number_of x v.resets ≡ left + 1 → get_or (members_at w.plan x) left 0 < w.plan.elements
     → get_or ts.words (get_or (members_at w.plan x) left 0 + 2) 0 ≡ run_number (played b (shape_of w.plan) (start (shape_of w.plan)) board.events (get_or (members_at w.plan x) left 0)) * 1048576 + 262145
 done_found {C} {S} b w value ts id x left v board at mine number below =
     let core : State C = played b (shape_of w.plan) (start (shape_of w.plan)) board.events in
     board.shows.words_are (get_or (members_at w.plan x) left 0) below ∙ ap (λ (j : ℕ). word_shown j (core (get_or (members_at w.plan x) left 0))) (armed_at board.shows id x left v at mine number)
 
 -- a member that isn't the head
-pub armed : {C S : Type 0} (b : Behaviour C) (w : Wiring) (value : S → C) (ts : TableState S View) (id x left e n : ℕ) (v : View) → (board : IsBoard b w value ts) → get_elem? ts.views id ≡ some v → 0 < times x v.resets → number_of x v.resets ≡ left + 1 → 0 < left → e ≡ get_or (members_at w.plan x) left 0 → v.out ≡ []
+pub armed : {C S : Type 0} (b : Behaviour C) (w : Wiring) (value : S → C → Type 0) (ts : TableState S View) (id x left e n : ℕ) (v : View) → (board : IsBoard b w value ts) → get_elem? ts.views id ≡ some v → 0 < times x v.resets → number_of x v.resets ≡ left + 1 → 0 < left → e ≡ get_or (members_at w.plan x) left 0 → v.out ≡ []
     → n ≡ run_number (played b (shape_of w.plan) (start (shape_of w.plan)) board.events e) * 1048576 + inner (shape_of w.plan) x e
     → IsBoard b w value (record { words = set ts.words (e + 2) n; homes = ts.homes; views = set ts.views id (arm_view x left e (get_or ts.words (e + 2) 0) v) })
 armed {C} {S} b w value ts id x left e n v board at mine number some_left e_is no_out n_is =
@@ -159,7 +159,7 @@ armed {C} {S} b w value ts id x left e n v board at mine number some_left e_is n
     ]
 
 -- the head, last
-pub head_armed : {C S : Type 0} (b : Behaviour C) (w : Wiring) (value : S → C) (ts : TableState S View) (id x e n : ℕ) (v : View) → (board : IsBoard b w value ts) → get_elem? ts.views id ≡ some v → 0 < times x v.resets → number_of x v.resets ≡ 1 → e ≡ head_of w.plan x → v.out ≡ []
+pub head_armed : {C S : Type 0} (b : Behaviour C) (w : Wiring) (value : S → C → Type 0) (ts : TableState S View) (id x e n : ℕ) (v : View) → (board : IsBoard b w value ts) → get_elem? ts.views id ≡ some v → 0 < times x v.resets → number_of x v.resets ≡ 1 → e ≡ head_of w.plan x → v.out ≡ []
     → n ≡ run_number (played b (shape_of w.plan) (start (shape_of w.plan)) board.events e) * 1048576
     → IsBoard b w value (record { words = set ts.words (e + 2) n; homes = ts.homes; views = set ts.views id (head_view x e (get_or ts.words (e + 2) 0) v) })
 head_armed {C} {S} b w value ts id x e n v board at mine number e_is no_out n_is =

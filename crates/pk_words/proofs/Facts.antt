@@ -4,7 +4,7 @@ use mathlib.Core.Option.{Option, some, none}
 use lib.ListN.{get_elem?}
 use Rattle.atomic_table.specs.Table.{State as TableState}
 use Rattle.pk_plan.specs.Plans.{predecessors_of}
-use Rattle.pk_plan.specs.Shape.{Shape, has, shape_of, holds}
+use Rattle.pk_plan.specs.Shape.{Shape, has, Before, one as one_step, more as more_steps, shape_of, holds}
 use Rattle.pk_iterate.specs.Behaviour.{Behaviour}
 use Rattle.pk_core.specs.declared.events.Event.{Event}
 use Rattle.pk_core.specs.declared.events.Status.{Status}
@@ -13,13 +13,13 @@ use Rattle.pk_core.specs.States.{State, cell_in}
 use Rattle.pk_core.specs.Events.{start, AllEnabled, after, played}
 use Rattle.pk_core.proofs.Basics.{cases, same, itself, count_cons, or_right}
 use Rattle.pk_core.proofs.Moves.{Axioms}
-use Rattle.pk_core.proofs.Keeps.{Kept, Due, kept_moved, apart_of, missing, owing, before_done, is_waiting, is_done}
+use Rattle.pk_core.proofs.Keeps.{Kept, Due, kept_moved, apart_of, missing, owing, before_done, inside_done, done_not_waiting, is_waiting, is_done}
 use Rattle.pk_core.proofs.Settled.{settle, settled, Does, does, nothing, move, kept_start}
 use Rattle.pk_layout.specs.Layouts.{slots_of, owner_of, reader_of}
 use Rattle.pk_layout.specs.Wirings.{Wiring, IsWired}
 use Rattle.pk_words.specs.declared.view.View.{View}
 use Rattle.pk_words.specs.Tokens.{times, heading, pending, total, one_if_held}
-use Rattle.pk_words.specs.Board.{head_of, members_at, IsRestarting, Shows, IsBoard}
+use Rattle.pk_words.specs.Board.{head_of, members_at, IsRestarting, MayTouch, Shows, IsBoard}
 use Rattle.pk_words.proofs.Lists.{part, parts, must_be_held, heading_some}
 use Rattle.pk_words.proofs.Wired.{axioms_of, fits_of, few_before, slot_read, member_in, head_below}
 use Rattle.pk_words.proofs.Stays.{armings, held_most}
@@ -56,7 +56,7 @@ narrow_of Open m d h = tt
 narrow_of Held m d h = tt
 narrow_of Done m d h = tt
 
-pub narrow : {C S : Type 0} (b : Behaviour C) (w : Wiring) (value : S → C) (st : TableState S View) → (board : IsBoard b w value st) → (e : ℕ) → Narrow (played b (shape_of w.plan) (start (shape_of w.plan)) board.events e).status
+pub narrow : {C S : Type 0} (b : Behaviour C) (w : Wiring) (value : S → C → Type 0) (st : TableState S View) → (board : IsBoard b w value st) → (e : ℕ) → Narrow (played b (shape_of w.plan) (start (shape_of w.plan)) board.events e).status
 narrow {C} b w value st board e =
     let core : State C = played b (shape_of w.plan) (start (shape_of w.plan)) board.events in
     let k = kept b (shape_of w.plan) board.events (axioms_of board.wired) board.enabled in
@@ -64,16 +64,16 @@ narrow {C} b w value st board e =
     narrow_of (core e).status (missing (shape_of w.plan) (settled core) e) (k.due e) (omega (arith, most, few_before board.wired e))
 
 -- a pass that has a Hold holds the element
-pub held : {C S : Type 0} {b : Behaviour C} {w : Wiring} {value : S → C} {core : State C} {st : TableState S View} → Shows b w value core st → (id e : ℕ) (v : View) → get_elem? st.views id ≡ some v → e < w.plan.elements → 0 < times e v.holds → (core e).status ≡ Held
+pub held : {C S : Type 0} {b : Behaviour C} {w : Wiring} {value : S → C → Type 0} {core : State C} {st : TableState S View} → Shows b w value core st → (id e : ℕ) (v : View) → get_elem? st.views id ≡ some v → e < w.plan.elements → 0 < times e v.holds → (core e).status ≡ Held
 held {C} {S} {b} {w} {value} {core} {st} sh id e v at below some_hold =
     must_be_held (core e).status (omega (arith, part (λ (x : View). times e x.holds + heading (head_of w.plan) e x.resets) st.views id v at, sh.held_once e below, some_hold))
 
 -- and it has one alone
-pub one_hold : {C S : Type 0} {b : Behaviour C} {w : Wiring} {value : S → C} {core : State C} {st : TableState S View} → Shows b w value core st → (id e : ℕ) (v : View) → get_elem? st.views id ≡ some v → e < w.plan.elements → times e v.holds ≤ 1
+pub one_hold : {C S : Type 0} {b : Behaviour C} {w : Wiring} {value : S → C → Type 0} {core : State C} {st : TableState S View} → Shows b w value core st → (id e : ℕ) (v : View) → get_elem? st.views id ≡ some v → e < w.plan.elements → times e v.holds ≤ 1
 one_hold {C} {S} {b} {w} {value} {core} {st} sh id e v at below = omega (arith, part (λ (x : View). times e x.holds + heading (head_of w.plan) e x.resets) st.views id v at, sh.held_once e below, held_most (core e).status)
 
 -- a Resetting's head has no Hold with the same pass
-pub own_free : {C S : Type 0} {b : Behaviour C} {w : Wiring} {value : S → C} {core : State C} {st : TableState S View} → IsWired b w → Shows b w value core st → (id x : ℕ) (v : View) → get_elem? st.views id ≡ some v → 0 < times x v.resets → times (head_of w.plan x) v.holds ≡ 0
+pub own_free : {C S : Type 0} {b : Behaviour C} {w : Wiring} {value : S → C → Type 0} {core : State C} {st : TableState S View} → IsWired b w → Shows b w value core st → (id x : ℕ) (v : View) → get_elem? st.views id ≡ some v → 0 < times x v.resets → times (head_of w.plan x) v.holds ≡ 0
 own_free {C} {S} {b} {w} {value} {core} {st} wired sh id x v at some_x =
     let r = sh.restarts id v at x some_x in
     let low_h = head_below wired x r.2.exit in
@@ -117,7 +117,7 @@ pub record IsPending {C : Type 0} (w : Wiring) (core : State C) (views : List Vi
   pub member : holds w.plan exit e ≡ true
   pub restarting : IsRestarting w.plan core exit
 
-pub pending_is : {C S : Type 0} {b : Behaviour C} {w : Wiring} {value : S → C} {core : State C} {st : TableState S View} → IsWired b w → Shows b w value core st → (e : ℕ) → 0 < armings w st e → IsPending w core st.views e
+pub pending_is : {C S : Type 0} {b : Behaviour C} {w : Wiring} {value : S → C → Type 0} {core : State C} {st : TableState S View} → IsWired b w → Shows b w value core st → (e : ℕ) → 0 < armings w st e → IsPending w core st.views e
 pending_is {C} {S} {b} {w} {value} {core} {st} wired sh e some_e =
     let a = some_view (λ (v : View). pending (members_at w.plan) e v.resets) st.views some_e in
     let r = pending_in (members_at w.plan) e a.1.resets a.3 in
@@ -129,7 +129,7 @@ zero_or zero = inl refl
 zero_or (suc n) = inr (omega arith)
 
 -- an element that neither waits nor is held isn't one of them
-pub not_pending : {C S : Type 0} {b : Behaviour C} {w : Wiring} {value : S → C} {core : State C} {st : TableState S View} → IsWired b w → Shows b w value core st → (e : ℕ) → is_waiting (core e).status ≡ false → one_if_held (core e).status ≡ 0 → armings w st e ≡ 0
+pub not_pending : {C S : Type 0} {b : Behaviour C} {w : Wiring} {value : S → C → Type 0} {core : State C} {st : TableState S View} → IsWired b w → Shows b w value core st → (e : ℕ) → is_waiting (core e).status ≡ false → one_if_held (core e).status ≡ 0 → armings w st e ≡ 0
 not_pending {C} {S} {b} {w} {value} {core} {st} wired sh e no_wait no_hold = elim (zero_or (armings w st e)) [
   | inl z ↦ z
   | inr some_e ↦ absurd (by_head (pending_is wired sh e some_e))
@@ -142,7 +142,7 @@ not_pending {C} {S} {b} {w} {value} {core} {st} wired sh e no_wait no_hold = eli
     ]
 
 -- nor one with a Hold
-pub hold_armed : {C S : Type 0} {b : Behaviour C} {w : Wiring} {value : S → C} {core : State C} {st : TableState S View} → IsWired b w → Shows b w value core st → (id e : ℕ) (v : View) → get_elem? st.views id ≡ some v → e < w.plan.elements → 0 < times e v.holds → armings w st e ≡ 0
+pub hold_armed : {C S : Type 0} {b : Behaviour C} {w : Wiring} {value : S → C → Type 0} {core : State C} {st : TableState S View} → IsWired b w → Shows b w value core st → (id e : ℕ) (v : View) → get_elem? st.views id ≡ some v → e < w.plan.elements → 0 < times e v.holds → armings w st e ≡ 0
 hold_armed {C} {S} {b} {w} {value} {core} {st} wired sh id e v at below mine = elim (zero_or (armings w st e)) [
   | inl z ↦ z
   | inr some_e ↦ absurd (by_head (pending_is wired sh e some_e))
@@ -174,7 +174,7 @@ hold_armed {C} {S} {b} {w} {value} {core} {st} wired sh id e v at below mine = e
     ]
 
 -- no second pass holds it
-pub held_by_one : {C S : Type 0} {b : Behaviour C} {w : Wiring} {value : S → C} {core : State C} {st : TableState S View} → Shows b w value core st → (i j e : ℕ) (v x : View) → get_elem? st.views i ≡ some v → get_elem? st.views j ≡ some x → i ≢ j → e < w.plan.elements → 0 < times e v.holds → 0 < times e x.holds → ⊥
+pub held_by_one : {C S : Type 0} {b : Behaviour C} {w : Wiring} {value : S → C → Type 0} {core : State C} {st : TableState S View} → Shows b w value core st → (i j e : ℕ) (v x : View) → get_elem? st.views i ≡ some v → get_elem? st.views j ≡ some x → i ≢ j → e < w.plan.elements → 0 < times e v.holds → 0 < times e x.holds → ⊥
 held_by_one {C} {S} {b} {w} {value} {core} {st} sh i j e v x at has_x ne below mine other = absurd (omega (arith, parts (λ (y : View). times e y.holds + heading (head_of w.plan) e y.resets) st.views i j v x at has_x ne, sh.held_once e below, held_most (core e).status, mine, other))
 
 -- the element that a held one reads isn't held
@@ -184,14 +184,63 @@ not_both {C} b w core wired kept e u below reads ne he hu = elim (fits_of wired 
   | inr before ↦ absurd (let d = before_done kept e u before (ap (λ (st : Status). is_waiting (settle st)) hu) in let t = ap (λ (st : Status). is_done (settle st)) he in cc)
 ]
 
-elem_in : {A : Type 0} (xs : List A) (k : ℕ) → k < length xs → (x : A) × (get_elem? xs k ≡ some x)
+-- from a component a list of constraints leads within it, to its exit, or past its exit
+leads : {p : Shape} → Axioms p → (x : ℕ) {u v : ℕ} → Before p u v → p.inside x u ≡ true → (p.inside x v ≡ true) ⊎ ((v ≡ x) ⊎ Before p x v)
+leads {p} ax x {u} {v} (one_step h) i = elim (cases (v == x)) [
+  | inl q ↦ inr (inl (same v x q))
+  | inr ne ↦ inl (ax.shape.stays x u v i (ax.shape.dual u v ∙ h) (apart_of v x ne))
+]
+leads {p} ax x {u} {v} (more_steps {v = m} b h) i = elim (leads ax x b i) [
+  | inl j ↦ elim (cases (v == x)) [
+    | inl q ↦ inr (inl (same v x q))
+    | inr ne ↦ inl (ax.shape.stays x m v j (ax.shape.dual m v ∙ h) (apart_of v x ne))
+  ]
+  | inr (inl q) ↦ inr (inr (one_step (subst (λ (j : ℕ). has j (p.preds v) ≡ true) q h)))
+  | inr (inr c) ↦ inr (inr (more_steps c h))
+]
+
+-- while an exit is held, no other element is held that is a member, or reads one or is read by one
+exit_apart : {C : Type 0} {b : Behaviour C} {w : Wiring} (core : State C) → IsWired b w → Kept (shape_of w.plan) (settled core) → (x v e : ℕ) → v < w.plan.elements → e < w.plan.elements → holds w.plan x v ≡ true → (core x).status ≡ Held → (core e).status ≡ Held → e ≢ x → (v ≡ e) ⊎ ((has v (b.reads e) ≡ true) ⊎ (has e (b.reads v) ≡ true)) → ⊥
+exit_apart {C} {b} {w} core wired kept x v e low_v low_e member hx he apart how = elim (cases (e == v)) [
+  | inl q ↦ not_done (ap (λ (j : ℕ). is_done (settle (core j).status)) (same e v q) ∙ done)
+  | inr q ↦
+      let ne = apart_of e v q in
+      elim how [
+        | inl ve ↦ ne (sym ve)
+        | inr r ↦ elim r [
+          | inl reads ↦ elim (fits_of wired e v low_e reads (λ h. ne (sym h))) [
+            | inl before ↦ past_exit before
+            | inr before ↦ not_done (before_done kept e v before (done_not_waiting (settle (core v).status) done))
+          ]
+          | inr reads ↦ elim (fits_of wired v e low_v reads ne) [
+            | inl before ↦ not_done (before_done kept e v before (done_not_waiting (settle (core v).status) done))
+            | inr before ↦ past_exit before
+          ]
+        ]
+      ]
+]
+  where
+    done : is_done (settle (core v).status) ≡ true
+    done = inside_done (axioms_of wired) kept x v (ap settle hx) member
+
+    not_done : is_done (settle (core e).status) ≡ true → ⊥
+    not_done d = absurd (let t = ap (λ (st : Status). is_done (settle st)) he in cc)
+
+    past_exit : Before (shape_of w.plan) v e → ⊥
+    past_exit before = elim (leads (axioms_of wired) x before member) [
+      | inl j ↦ not_done (inside_done (axioms_of wired) kept x e (ap settle hx) j)
+      | inr (inl q) ↦ apart q
+      | inr (inr c) ↦ absurd (let d = before_done kept x e c (ap (λ (st : Status). is_waiting (settle st)) he) in let t = ap (λ (st : Status). is_done (settle st)) hx in cc)
+    ]
+
+pub elem_in : {A : Type 0} (xs : List A) (k : ℕ) → k < length xs → (x : A) × (get_elem? xs k ≡ some x)
 elem_in [] k h = absurd (omega arith)
 elem_in (x ∷ xs) zero h = (x, refl)
 elem_in (x ∷ xs) (suc k) h = elem_in xs k (omega arith)
 
 -- A slot of a Hold's element that isn't out with its pass is at home.
-pub at_home : {C S : Type 0} (b : Behaviour C) (w : Wiring) (value : S → C) (st : TableState S View) → (board : IsBoard b w value st) → (id e k : ℕ) (v : View) → get_elem? st.views id ≡ some v → e < w.plan.elements → 0 < times e v.holds → k < slots_of w.layout → length st.homes ≡ slots_of w.layout → (owner_of w.layout k ≡ e) ⊎ (reader_of w.layout k ≡ e) → has k v.out ≡ false
-    → (x : S) × (get_elem? st.homes k ≡ some (some x)) × (value x ≡ cell_in b (played b (shape_of w.plan) (start (shape_of w.plan)) board.events) (owner_of w.layout k))
+pub at_home : {C S : Type 0} (b : Behaviour C) (w : Wiring) (value : S → C → Type 0) (st : TableState S View) → (board : IsBoard b w value st) → (id e k : ℕ) (v : View) → get_elem? st.views id ≡ some v → e < w.plan.elements → 0 < times e v.holds → k < slots_of w.layout → length st.homes ≡ slots_of w.layout → (owner_of w.layout k ≡ e) ⊎ (reader_of w.layout k ≡ e) → has k v.out ≡ false
+    → (x : S) × (get_elem? st.homes k ≡ some (some x)) × (value x (cell_in b (played b (shape_of w.plan) (start (shape_of w.plan)) board.events) (owner_of w.layout k)))
 at_home {C} {S} b w value st board id e k v at below mine in_slots long of_e not_out =
     let it = elem_in st.homes k (omega (arith, in_slots, long)) in
     by_case it.0 it.1
@@ -241,6 +290,12 @@ at_home {C} {S} b w value st board id e k v at below mine in_slots long of_e not
       ]
     ]
 
+    touched : (u : ℕ) (j : ℕ) (x : View) → get_elem? st.views j ≡ some x → j ≢ id → u < w.plan.elements → MayTouch w x u → (u ≡ e) ⊎ ((has u (b.reads e) ≡ true) ⊎ (has e (b.reads u) ≡ true)) → ⊥
+    touched u j x has_x ne low_u (inl theirs) how = clash u j x has_x ne low_u theirs how
+    touched u j x has_x ne low_u (inr theirs) how =
+        exit_apart core board.wired (kept b (shape_of w.plan) board.events (axioms_of board.wired) board.enabled) theirs.0 u e low_u below theirs.3 (held board.shows j theirs.0 x has_x theirs.1 theirs.2) (held board.shows id e v at below mine)
+        (λ q. held_by_one board.shows j id e x v has_x at ne below (subst (λ (i : ℕ). 0 < times i x.holds) (sym q) theirs.2) mine) how
+
     not_away : get_elem? st.homes k ≡ some none → ⊥
     not_away gone =
         let a = board.shows.away k gone in
@@ -251,10 +306,10 @@ at_home {C} {S} b w value st board id e k v at below mine in_slots long of_e not
         cc
         ) in
         elim (board.shows.out_is a.0 a.1 a.2 k a.3) [
-          | inl o ↦ clash (owner_of w.layout k) a.0 a.1 a.2 ne (board.wired.laid_out.owned k in_slots) o (link (owner_of w.layout k) (inl refl))
-          | inr r ↦ clash (reader_of w.layout k) a.0 a.1 a.2 ne (board.wired.laid_out.read k in_slots) r (link (reader_of w.layout k) (inr refl))
+          | inl o ↦ touched (owner_of w.layout k) a.0 a.1 a.2 ne (board.wired.laid_out.owned k in_slots) o (link (owner_of w.layout k) (inl refl))
+          | inr r ↦ touched (reader_of w.layout k) a.0 a.1 a.2 ne (board.wired.laid_out.read k in_slots) r (link (reader_of w.layout k) (inr refl))
         ]
 
-    by_case : (y : Option S) → get_elem? st.homes k ≡ some y → (x : S) × (get_elem? st.homes k ≡ some (some x)) × (value x ≡ cell_in b core (owner_of w.layout k))
+    by_case : (y : Option S) → get_elem? st.homes k ≡ some y → (x : S) × (get_elem? st.homes k ≡ some (some x)) × (value x (cell_in b core (owner_of w.layout k)))
     by_case none is = absurd (not_away is)
     by_case (some x) is = (x, is, board.shows.homes_are k x is)

@@ -56,7 +56,7 @@ none_any : {A : Type 0} (xs : List A) → one_if_any xs ≡ 0 → xs ≡ []
 none_any [] h = refl
 none_any (x ∷ xs) h = absurd (omega (arith, h))
 
-one_state : {C S : Type 0} (b : Behaviour C) (w : Wiring) (value : S → C) (s : TableState S View) (board other : IsBoard b w value s) (e : ℕ) → e < w.plan.elements → IsSameAt (core_of board) (core_of other) e
+one_state : {C S : Type 0} (b : Behaviour C) (w : Wiring) (value : S → C → Type 0) (s : TableState S View) (board other : IsBoard b w value s) (e : ℕ) → e < w.plan.elements → IsSameAt (core_of board) (core_of other) e
 one_state {C} {S} b w value s board other e below = record {
   status = elim (zero_or (armings w s e)) [
     | inl none ↦ same_status (armings w s e) (core e) (core' e) (narrow b w value s board e) (narrow b w value s other e) none words
@@ -94,7 +94,7 @@ one_state {C} {S} b w value s board other e below = record {
 
 -- ---- the start
 
-at_start : {C S : Type 0} (b : Behaviour C) (w : Wiring) (value : S → C) (s : TableState S View) → IsBoard b w value s → (id : ℕ) (v : View) → get_elem? s.views id ≡ some v → v.fresh ≡ true → IsStart b w value s
+at_start : {C S : Type 0} (b : Behaviour C) (w : Wiring) (value : S → C → Type 0) (s : TableState S View) → IsBoard b w value s → (id : ℕ) (v : View) → get_elem? s.views id ≡ some v → v.fresh ≡ true → IsStart b w value s
 at_start {C} {S} b w value s board id v at fresh = record {
   alone = (board.begins id v at fresh).0;
   going = (board.begins id v at fresh).2;
@@ -115,7 +115,7 @@ at_start {C} {S} b w value s board id v at fresh = record {
           omega (arith, free, held))
     ]
 
-pub every_board : {C S : Type 0} (b : Behaviour C) (value : S → C) → EveryBoardKeeps b value
+pub every_board : {C S : Type 0} (b : Behaviour C) (value : S → C → Type 0) → EveryBoardKeeps b value
 every_board b value = record {
   keeps = λ w s board order ends ordered. (every_list b).keeps w.plan order ends board.events board.wired.axioms ordered board.wired.fits board.enabled;
   one_state = λ w s board other e below. one_state b w value s board other e below;

@@ -42,8 +42,8 @@ inner_is {C} {b} {w} wired x e exit = counted_same (holds w.plan x) (is_inside w
     here u below = let q = tells_below u w.plan.elements below in rw (exit, q) refl
 
 -- the exit's cell goes home, and its component is to be gone through again
-pub restarts : {C S : Type 0} (b : Behaviour C) (w : Wiring) (value : S → C) (slots id x run : ℕ) (c : C) (me : Me S View) → slots ≡ slots_of w.layout → x < w.plan.elements → exits w.plan x ≡ true → HasHold me.0 x run → run < w.limit → me.0.out ≡ slots_in me.1
-    → AllRight (λ k y. (value y ≡ c) × (owner_of w.layout k ≡ x)) me.1
+pub restarts : {C S : Type 0} (b : Behaviour C) (w : Wiring) (value : S → C → Type 0) (slots id x run : ℕ) (c : C) (me : Me S View) → slots ≡ slots_of w.layout → x < w.plan.elements → exits w.plan x ≡ true → HasHold me.0 x run → run < w.limit → me.0.out ≡ slots_in me.1
+    → AllRight (λ k y. (value y c) × (owner_of w.layout k ≡ x)) me.1
     → ((k : ℕ) → k < slots_of w.layout → owner_of w.layout k ≡ x → has k (slots_in me.1) ≡ true)
     → (order : Level) (ends : Ends b order) → IsOrderOf (shape_of w.plan) order → IsGiven b true true x (values_read b (trace ends) x (run + 1)) c
     → Allows (IsBoard b w value) slots id me (x + 2) (λ _. (run + 1) * 1048576 + inner (shape_of w.plan) x x) (λ _. Restarted w.plan x me ((run + 1) * 1048576 + inner (shape_of w.plan) x x))
@@ -59,7 +59,7 @@ restarts {C} {S} b w value slots id x run c me count below exit hold room out al
 )
 
 -- a member that isn't the head is armed
-pub arms : {C S : Type 0} (b : Behaviour C) (w : Wiring) (value : S → C) (slots id x left e amount : ℕ) (me : Me S View) → IsIdle me → HasResetting me.0 x (left + 1) → 0 < left → e ≡ get_or (members_at w.plan x) left 0 → amount + inner (shape_of w.plan) x e ≡ 262145
+pub arms : {C S : Type 0} (b : Behaviour C) (w : Wiring) (value : S → C → Type 0) (slots id x left e amount : ℕ) (me : Me S View) → IsIdle me → HasResetting me.0 x (left + 1) → 0 < left → e ≡ get_or (members_at w.plan x) left 0 → amount + inner (shape_of w.plan) x e ≡ 262145
     → Allows (IsBoard b w value) slots id me (e + 2) (λ n. (n + (2 ^ 64 - amount)) % 2 ^ 64) (Armed x left e me)
 arms {C} {S} b w value slots id x left e amount me no_slot reset some_left e_is amount_is s board long at fits =
     let core : State C = played b (shape_of w.plan) (start (shape_of w.plan)) board.events in
@@ -81,7 +81,7 @@ arms {C} {S} b w value slots id x left e amount me no_slot reset some_left e_is 
     )
 
 -- the head is armed, and the pass has its Hold
-pub arms_head : {C S : Type 0} (b : Behaviour C) (w : Wiring) (value : S → C) (slots id x e : ℕ) (me : Me S View) → IsIdle me → HasResetting me.0 x 1 → e ≡ head_of w.plan x
+pub arms_head : {C S : Type 0} (b : Behaviour C) (w : Wiring) (value : S → C → Type 0) (slots id x e : ℕ) (me : Me S View) → IsIdle me → HasResetting me.0 x 1 → e ≡ head_of w.plan x
     → Allows (IsBoard b w value) slots id me (e + 2) (λ n. (n + (2 ^ 64 - 262145)) % 2 ^ 64) (HeadArmed b w x e me)
 arms_head {C} {S} b w value slots id x e me no_slot reset e_is s board long at fits =
     let core : State C = played b (shape_of w.plan) (start (shape_of w.plan)) board.events in

@@ -29,7 +29,7 @@ restart_else {C} p s t e x else no_wait apart r =
     restart_apart p s t e x else apart (λ q. absurd (let h : is_waiting (s e).status ≡ true = ap (λ (j : ℕ). is_waiting (s j).status) q ∙ ap is_waiting r.exit_waits in cc)) (λ inside. absurd (let h = ap is_waiting (r.member_waits e inside apart) in cc)) r
 
 -- a pass's Resettings stay, where what is to be gone through again stays so
-pub steady : {C S : Type 0} {b : Behaviour C} {w : Wiring} {value : S → C} {s : State C} {ts : TableState S View} (t : State C) (id : ℕ) (v v' : View) → IsWired b w → Shows b w value s ts → get_elem? ts.views id ≡ some v → v'.resets ≡ v.resets
+pub steady : {C S : Type 0} {b : Behaviour C} {w : Wiring} {value : S → C → Type 0} {s : State C} {ts : TableState S View} (t : State C) (id : ℕ) (v v' : View) → IsWired b w → Shows b w value s ts → get_elem? ts.views id ≡ some v → v'.resets ≡ v.resets
     → ((x : ℕ) → IsRestarting w.plan s x → times (head_of w.plan x) v.holds ≡ 0 → IsRestarting w.plan t x)
     → (x : ℕ) → 0 < times x v'.resets → (0 < number_of x v'.resets) × (number_of x v'.resets ≤ length (members_at w.plan x)) × IsRestarting w.plan t x
 steady {C} {S} {b} {w} {value} {s} {ts} t id v v' wired sh at same stay x some_x =

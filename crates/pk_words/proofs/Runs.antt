@@ -1,5 +1,5 @@
 -- A run that doesn't go through a component again.
-use Rattle.std.proofs.Common.{◌≡◌, ◌≢◌, ℕ, ◌+◌, ◌*◌, ◌<◌, ◌≤◌, ◌==◌, List, [], ◌∷◌, length, drop, set, Bool, true, false, refl, sym, ap, subst, ◌∙◌, arith, inl, inr}
+use Rattle.std.proofs.Common.{◌≡◌, ◌≢◌, ℕ, ◌+◌, ◌*◌, ◌<◌, ◌≤◌, ◌==◌, List, [], ◌∷◌, length, drop, set, Bool, true, false, refl, sym, ap, subst, ◌∙◌, arith, inl, inr, ◌⊎◌}
 use mathlib.Core.Option.{some}
 use lib.ListN.{get_elem?}
 use Rattle.atomic_table.specs.Table.{State as TableState, homes_after}
@@ -51,10 +51,10 @@ nothing_in (x ∷ xs) h = absurd (h x (let r = itself x in rw r refl))
 quiet : {C : Type 0} {p : Shape} (s : State C) → Kept p (settled s) → (e : ℕ) → (s e).status ≡ Held → (s e).sends ≡ []
 quiet {C} {p} s k e is = nothing_in (s e).sends (λ v h. absurd (let d : is_done (settle (s e).status) ≡ true = k.senders e v h in let n : is_done (settle (s e).status) ≡ false = ap (λ (y : Status). is_done (settle y)) is in cc))
 
-run_own : {C : Type 0} (p : Shape) (s : State C) (e : ℕ) (run : Made C) → after_run p s e false run e ≡ record { status = Done; made = run ∷ (s e).made; sends = p.succs e }
+pub run_own : {C : Type 0} (p : Shape) (s : State C) (e : ℕ) (run : Made C) → after_run p s e false run e ≡ record { status = Done; made = run ∷ (s e).made; sends = p.succs e }
 run_own p s e run = let q = itself e in rw q refl
 
-run_changes : {C S : Type 0} {b : Behaviour C} {w : Wiring} {value : S → C} {s : State C} {ts : TableState S View} (run : Made C) (id e n : ℕ) (v : View) → IsWired b w → Shows b w value s ts → Kept (shape_of w.plan) (settled s) → get_elem? ts.views id ≡ some v → e < w.plan.elements → 0 < times e v.holds → number_of e v.holds < w.limit
+run_changes : {C S : Type 0} {b : Behaviour C} {w : Wiring} {value : S → C → Type 0} {s : State C} {ts : TableState S View} (run : Made C) (id e n : ℕ) (v : View) → IsWired b w → Shows b w value s ts → Kept (shape_of w.plan) (settled s) → get_elem? ts.views id ≡ some v → e < w.plan.elements → 0 < times e v.holds → number_of e v.holds < w.limit
     → n ≡ (number_of e v.holds + 1) * 1048576 + 262145
     → Changes w s (after_run (shape_of w.plan) s e false run) (armings w ts) (armings w ts) e n v (done_view e n (successors_of w.plan e) v)
 run_changes {C} {S} {b} {w} {value} {s} {ts} run id e n v wired sh k at below mine room n_is =
@@ -124,25 +124,28 @@ run_changes {C} {S} {b} {w} {value} {s} {ts} run id e n v wired sh k at below mi
     stay x r free = restart_else w.plan s (after_run (shape_of w.plan) s e false run) e x (λ u ne. ap (λ (y : Element C). y.status) (run_else (shape_of w.plan) s e u run (neq u e ne)))
         (ap is_waiting (held sh id e v at below mine)) (λ q. absurd (omega (arith, mine, free, ap (λ (j : ℕ). times j v.holds) q))) r
 
--- what is out goes home with the new cell
-pub finished : {C S : Type 0} (b : Behaviour C) (w : Wiring) (value : S → C) (ts : TableState S View) (id e n : ℕ) (v : View) (xs : List (ℕ × S)) (c : C) → (board : IsBoard b w value ts) → get_elem? ts.views id ≡ some v → e < w.plan.elements → 0 < times e v.holds → number_of e v.holds < w.limit
+-- what is out goes home: the element's slots with the new cell, any other as it was
+pub finished_with : {C S : Type 0} (b : Behaviour C) (w : Wiring) (value : S → C → Type 0) (ts : TableState S View) (id e n : ℕ) (v : View) (xs : List (ℕ × S)) (c : C) → (board : IsBoard b w value ts) → get_elem? ts.views id ≡ some v → e < w.plan.elements → 0 < times e v.holds → number_of e v.holds < w.limit
     → n ≡ (number_of e v.holds + 1) * 1048576 + 262145
     → length ts.homes ≡ slots_of w.layout → v.out ≡ slots_in xs
-    → AllRight (λ k x. (value x ≡ c) × (owner_of w.layout k ≡ e)) xs
+    → AllRight (λ k x. ((value x c) × (owner_of w.layout k ≡ e)) ⊎ ((owner_of w.layout k ≢ e) × (value x (cell_in b (played b (shape_of w.plan) (start (shape_of w.plan)) board.events) (owner_of w.layout k))))) xs
     → ((k : ℕ) → k < slots_of w.layout → owner_of w.layout k ≡ e → has k (slots_in xs) ≡ true)
     → IsGiven b (exits w.plan e) false e (inputs_of b (played b (shape_of w.plan) (start (shape_of w.plan)) board.events) e) c
     → IsBoard b w value (record { words = set ts.words (e + 2) n; homes = homes_after ts.homes xs (gives_all (length xs)); views = set ts.views id (done_view e n (successors_of w.plan e) v) })
-finished {C} {S} b w value ts id e n v xs c board at below mine room n_is long out all every given = by_kind (exits w.plan e) refl given
+finished_with {C} {S} b w value ts id e n v xs c board at below mine room n_is long out all every given = by_kind (exits w.plan e) refl given
   where
     core : State C
     core = played b (shape_of w.plan) (start (shape_of w.plan)) board.events
 
-    right : (run : Made C) → run.gave ≡ c → (ys : List (ℕ × S)) → AllRight (λ k x. (value x ≡ c) × (owner_of w.layout k ≡ e)) ys → AllRight (λ k x. value x ≡ cell_in b (after_run (shape_of w.plan) core e false run) (owner_of w.layout k)) ys
+    one_right : (run : Made C) → run.gave ≡ c → (k : ℕ) (x : S) → ((value x c) × (owner_of w.layout k ≡ e)) ⊎ ((owner_of w.layout k ≢ e) × (value x (cell_in b core (owner_of w.layout k)))) → value x (cell_in b (after_run (shape_of w.plan) core e false run) (owner_of w.layout k))
+    one_right run gave k x (inl h) =
+        subst (value x) (sym gave ∙ sym (ap (λ (y : Element C). newest (b.first e) y.made) (run_own (shape_of w.plan) core e run)) ∙ ap (λ (j : ℕ). cell_in b (after_run (shape_of w.plan) core e false run) j) (sym h.1)) h.0
+    one_right run gave k x (inr h) =
+        subst (value x) (sym (ap (λ (y : Element C). newest (b.first (owner_of w.layout k)) y.made) (run_else (shape_of w.plan) core e (owner_of w.layout k) run (neq (owner_of w.layout k) e h.0)))) h.1
+
+    right : (run : Made C) → run.gave ≡ c → (ys : List (ℕ × S)) → AllRight (λ k x. ((value x c) × (owner_of w.layout k ≡ e)) ⊎ ((owner_of w.layout k ≢ e) × (value x (cell_in b core (owner_of w.layout k))))) ys → AllRight (λ k x. value x (cell_in b (after_run (shape_of w.plan) core e false run) (owner_of w.layout k))) ys
     right run gave [] h = tt
-    right run gave (y ∷ ys) h = (
-      h.0.0 ∙ sym gave ∙ sym (ap (λ (x : Element C). newest (b.first e) x.made) (run_own (shape_of w.plan) core e run)) ∙ ap (λ (j : ℕ). cell_in b (after_run (shape_of w.plan) core e false run) j) (sym h.0.1),
-      right run gave ys h.1,
-    )
+    right run gave (y ∷ ys) h = (one_right run gave y.0 y.1 h.0, right run gave ys h.1)
 
     made_by : (run : Made C) → run.gave ≡ c → (ev : Event) → Enabled b (shape_of w.plan) core ev → after b (shape_of w.plan) core ev ≡ after_run (shape_of w.plan) core e false run → IsBoard b w value (record { words = set ts.words (e + 2) n; homes = homes_after ts.homes xs (gives_all (length xs)); views = set ts.views id (done_view e n (successors_of w.plan e) v) })
     made_by run gave ev can is =
@@ -159,3 +162,20 @@ finished {C} {S} b w value ts id e n v xs c board at below mine room n_is long o
     by_kind : (exit : Bool) → exits w.plan e ≡ exit → IsGiven b exit false e (inputs_of b core e) c → IsBoard b w value (record { words = set ts.words (e + 2) n; homes = homes_after ts.homes xs (gives_all (length xs)); views = set ts.views id (done_view e n (successors_of w.plan e) v) })
     by_kind true x g = made_by (decided b core e) g.0 (Stable e) ((is_held, below), x, g.1) refl
     by_kind false x g = made_by (applied b core e) g.0 (Finish e) ((is_held, below), x) refl
+
+pub all_own : {S : Type 0} (p q : ℕ → S → Type 0) (xs : List (ℕ × S)) → ((k : ℕ) (x : S) → p k x → q k x) → AllRight p xs → AllRight q xs
+all_own p q [] h all = tt
+all_own p q (x ∷ xs) h all = (h x.0 x.1 all.0, all_own p q xs h all.1)
+
+-- what is out goes home with the new cell
+pub finished : {C S : Type 0} (b : Behaviour C) (w : Wiring) (value : S → C → Type 0) (ts : TableState S View) (id e n : ℕ) (v : View) (xs : List (ℕ × S)) (c : C) → (board : IsBoard b w value ts) → get_elem? ts.views id ≡ some v → e < w.plan.elements → 0 < times e v.holds → number_of e v.holds < w.limit
+    → n ≡ (number_of e v.holds + 1) * 1048576 + 262145
+    → length ts.homes ≡ slots_of w.layout → v.out ≡ slots_in xs
+    → AllRight (λ k x. (value x c) × (owner_of w.layout k ≡ e)) xs
+    → ((k : ℕ) → k < slots_of w.layout → owner_of w.layout k ≡ e → has k (slots_in xs) ≡ true)
+    → IsGiven b (exits w.plan e) false e (inputs_of b (played b (shape_of w.plan) (start (shape_of w.plan)) board.events) e) c
+    → IsBoard b w value (record { words = set ts.words (e + 2) n; homes = homes_after ts.homes xs (gives_all (length xs)); views = set ts.views id (done_view e n (successors_of w.plan e) v) })
+finished {C} {S} b w value ts id e n v xs c board at below mine room n_is long out all every given =
+    finished_with b w value ts id e n v xs c board at below mine room n_is long out
+    (all_own (λ k x. (value x c) × (owner_of w.layout k ≡ e)) (λ k x. ((value x c) × (owner_of w.layout k ≡ e)) ⊎ ((owner_of w.layout k ≢ e) × (value x (cell_in b (played b (shape_of w.plan) (start (shape_of w.plan)) board.events) (owner_of w.layout k))))) xs (λ k x h. inl h) all)
+    every given

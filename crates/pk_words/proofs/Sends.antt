@@ -81,7 +81,7 @@ any_most : {A : Type 0} (xs : List A) → one_if_any xs ≤ 1
 any_most [] = omega arith
 any_most (x ∷ xs) = omega arith
 
-send_changes : {C S : Type 0} {b : Behaviour C} {w : Wiring} {value : S → C} {s : State C} {ts : TableState S View} (st : Status) (id a i tgt n : ℕ) (left : List ℕ) (v v' : View) → IsWired b w → Shows b w value s ts → Kept (shape_of w.plan) (settled s) → get_elem? ts.views id ≡ some v → a < w.plan.elements
+send_changes : {C S : Type 0} {b : Behaviour C} {w : Wiring} {value : S → C → Type 0} {s : State C} {ts : TableState S View} (st : Status) (id a i tgt n : ℕ) (left : List ℕ) (v v' : View) → IsWired b w → Shows b w value s ts → Kept (shape_of w.plan) (settled s) → get_elem? ts.views id ≡ some v → a < w.plan.elements
     → is_waiting (s tgt).status ≡ true
     → 0 < times a v.sends → (s a).sends ≡ tgt ∷ left → without tgt (s a).sends ≡ left → drop (i + 1) (successors_of w.plan a) ≡ left
     → v'.sends ≡ sent_on a i left v.sends
@@ -175,7 +175,7 @@ pub target_low : {C : Type 0} (b : Behaviour C) (w : Wiring) (a i : ℕ) → IsW
 target_low b w a i wired in_range = (axioms_of wired).shape.below a (get_or (successors_of w.plan a) i 0) (has_get (successors_of w.plan a) i in_range)
 
 -- what is still sent to isn't to be armed
-pub none_armed : {C S : Type 0} (b : Behaviour C) (w : Wiring) (value : S → C) (ts : TableState S View) → (board : IsBoard b w value ts) → (a tgt : ℕ) → has tgt (played b (shape_of w.plan) (start (shape_of w.plan)) board.events a).sends ≡ true → armings w ts tgt ≡ 0
+pub none_armed : {C S : Type 0} (b : Behaviour C) (w : Wiring) (value : S → C → Type 0) (ts : TableState S View) → (board : IsBoard b w value ts) → (a tgt : ℕ) → has tgt (played b (shape_of w.plan) (start (shape_of w.plan)) board.events a).sends ≡ true → armings w ts tgt ≡ 0
 none_armed {C} {S} b w value ts board a tgt has_tgt = elim (zero_or (armings w ts tgt)) [
   | inl z ↦ z
   | inr some_t ↦ absurd (
@@ -198,7 +198,7 @@ none_armed {C} {S} b w value ts board a tgt has_tgt = elim (zero_or (armings w t
         )
 
 -- what a send finds
-pub target_found : {C S : Type 0} (b : Behaviour C) (w : Wiring) (value : S → C) (ts : TableState S View) (id a i : ℕ) (v : View) → (board : IsBoard b w value ts) → get_elem? ts.views id ≡ some v → a < w.plan.elements → 0 < times a v.sends → i ≡ number_of a v.sends → i < length (successors_of w.plan a)
+pub target_found : {C S : Type 0} (b : Behaviour C) (w : Wiring) (value : S → C → Type 0) (ts : TableState S View) (id a i : ℕ) (v : View) → (board : IsBoard b w value ts) → get_elem? ts.views id ≡ some v → a < w.plan.elements → 0 < times a v.sends → i ≡ number_of a v.sends → i < length (successors_of w.plan a)
     → (c : ℕ) × ((played b (shape_of w.plan) (start (shape_of w.plan)) board.events (get_or (successors_of w.plan a) i 0)).status ≡ Waiting (suc c))
     × (get_or ts.words (get_or (successors_of w.plan a) i 0 + 2) 0 ≡ run_number (played b (shape_of w.plan) (start (shape_of w.plan)) board.events (get_or (successors_of w.plan a) i 0)) * 1048576 + suc c) × (suc c < 262144) × (get_or (successors_of w.plan a) i 0 < w.plan.elements)
 target_found {C} {S} b w value ts id a i v board at low_a mine i_is in_range =
@@ -229,7 +229,7 @@ waits_now Open h = absurd (cc)
 waits_now Held h = absurd (cc)
 waits_now Done h = absurd (cc)
 
-pub sent_is : {C S : Type 0} (b : Behaviour C) (w : Wiring) (value : S → C) (ts : TableState S View) (id a i n : ℕ) (v : View) → IsBoard b w value ts → get_elem? ts.views id ≡ some v → a < w.plan.elements → 0 < times a v.sends → i ≡ number_of a v.sends → i < length (successors_of w.plan a) → v.out ≡ []
+pub sent_is : {C S : Type 0} (b : Behaviour C) (w : Wiring) (value : S → C → Type 0) (ts : TableState S View) (id a i n : ℕ) (v : View) → IsBoard b w value ts → get_elem? ts.views id ≡ some v → a < w.plan.elements → 0 < times a v.sends → i ≡ number_of a v.sends → i < length (successors_of w.plan a) → v.out ≡ []
     → n + 1 ≡ get_or ts.words (get_or (successors_of w.plan a) i 0 + 2) 0 ⊎ (get_or ts.words (get_or (successors_of w.plan a) i 0 + 2) 0 ≡ 0)
     → IsBoard b w value (record { words = set ts.words (get_or (successors_of w.plan a) i 0 + 2) n; homes = ts.homes; views = set ts.views id (arrive_view a i (drop (i + 1) (successors_of w.plan a)) (get_or (successors_of w.plan a) i 0) (get_or ts.words (get_or (successors_of w.plan a) i 0 + 2) 0) v) })
 sent_is {C} {S} b w value ts id a i n v board at low_a mine i_is in_range no_out n_is =

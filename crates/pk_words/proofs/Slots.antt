@@ -14,7 +14,7 @@ use Rattle.pk_layout.specs.Wirings.{Wiring}
 use Rattle.pk_words.specs.declared.view.View.{View}
 use Rattle.pk_words.specs.Tokens.{times, seen_run}
 use Rattle.pk_words.specs.Views.{AllRight, slots_in, idle, knows_stop}
-use Rattle.pk_words.specs.Board.{Shows, IsBoard}
+use Rattle.pk_words.specs.Board.{MayTouch, Shows, IsBoard}
 use Rattle.pk_words.proofs.Lists.{elem_set, elem_set_other}
 use Rattle.pk_words.proofs.Stays.{armings, Moves, stays}
 use Rattle.pk_words.proofs.Statuses.{same_changes}
@@ -43,7 +43,7 @@ elem_set_in [] i y h = absurd (omega arith)
 elem_set_in (x ∷ hs) zero y h = refl
 elem_set_in (x ∷ hs) (suc i) y h = elem_set_in hs i y (omega arith)
 
-elem_below : {A : Type 0} (xs : List A) (k : ℕ) (y : A) → get_elem? xs k ≡ some y → k < length xs
+pub elem_below : {A : Type 0} (xs : List A) (k : ℕ) (y : A) → get_elem? xs k ≡ some y → k < length xs
 elem_below [] k y h = absurd (cc)
 elem_below (x ∷ xs) zero y h = omega arith
 elem_below (x ∷ xs) (suc k) y h = omega (arith, elem_below xs k y h)
@@ -62,25 +62,25 @@ gives_home {S} right hs (y ∷ ys) k all out below = elim (cases (has k (slots_i
 ]
 
 -- what is out goes home
-pub given_moves : {C S : Type 0} {b : Behaviour C} {w : Wiring} {value : S → C} {s : State C} {ts : TableState S View} (t : State C) (v v' : View) (xs : List (ℕ × S)) → Shows b w value s ts → length ts.homes ≡ slots_of w.layout → v.out ≡ slots_in xs → v'.out ≡ []
-    → AllRight (λ k x. value x ≡ cell_in b t (owner_of w.layout k)) xs
+pub given_moves : {C S : Type 0} {b : Behaviour C} {w : Wiring} {value : S → C → Type 0} {s : State C} {ts : TableState S View} (t : State C) (v v' : View) (xs : List (ℕ × S)) → Shows b w value s ts → length ts.homes ≡ slots_of w.layout → v.out ≡ slots_in xs → v'.out ≡ []
+    → AllRight (λ k x. value x (cell_in b t (owner_of w.layout k))) xs
     → ((k : ℕ) → k < slots_of w.layout → has k (slots_in xs) ≡ false → cell_in b t (owner_of w.layout k) ≡ cell_in b s (owner_of w.layout k))
     → Moves b w value t ts.homes (homes_after ts.homes xs (gives_all (length xs))) v v'
 given_moves {C} {S} {b} {w} {value} {s} {ts} t v v' xs sh long out out' all rest_stays = record {
   homes = λ k x at. elim (cases (has k (slots_in xs))) [
     | inl q ↦
         let below : k < length ts.homes = omega (arith, elem_below (homes_after ts.homes xs (gives_all (length xs))) k (some x) at, homes_long ts.homes xs) in
-        let g = gives_home (λ j y. value y ≡ cell_in b t (owner_of w.layout j)) ts.homes xs k all q below in
+        let g = gives_home (λ j y. value y (cell_in b t (owner_of w.layout j))) ts.homes xs k all q below in
         let gx : g.0 ≡ x = cc in
-        ap value (sym gx) ∙ g.2
+        subst (λ (y : S). value y (cell_in b t (owner_of w.layout k))) gx g.2
     | inr q ↦
         let was = sym (gives_other ts.homes xs k q) ∙ at in
-        sh.homes_are k x was ∙ sym (rest_stays k (omega (arith, elem_below ts.homes k (some x) was, long)) q)
+        subst (value x) (sym (rest_stays k (omega (arith, elem_below ts.homes k (some x) was, long)) q)) (sh.homes_are k x was)
   ];
   away = λ k gone. elim (cases (has k (slots_in xs))) [
     | inl q ↦ absurd (
         let below : k < length ts.homes = omega (arith, elem_below (homes_after ts.homes xs (gives_all (length xs))) k none gone, homes_long ts.homes xs) in
-        let g = gives_home (λ j y. value y ≡ cell_in b t (owner_of w.layout j)) ts.homes xs k all q below in
+        let g = gives_home (λ j y. value y (cell_in b t (owner_of w.layout j))) ts.homes xs k all q below in
         let here = g.1 in
         cc
         )
@@ -93,12 +93,12 @@ given_moves {C} {S} {b} {w} {value} {s} {ts} t v v' xs sh long out out' all rest
     homes_long hs [] = refl
     homes_long hs (y ∷ ys) = homes_long (set hs y.0 (some y.1)) ys ∙ length-set hs y.0 (some y.1)
 
--- a load takes a slot of a Hold's element, and may note something that is so
-pub taken : {C S : Type 0} (b : Behaviour C) (w : Wiring) (value : S → C) (ts : TableState S View) (id e k : ℕ) (v v' : View) → v'.fresh ≡ false → (board : IsBoard b w value ts) → get_elem? ts.views id ≡ some v → e < w.plan.elements → 0 < times e v.holds → (owner_of w.layout k ≡ e) ⊎ (reader_of w.layout k ≡ e)
+-- a load takes a slot that the pass may touch, and may note something that is so
+pub taken_under : {C S : Type 0} (b : Behaviour C) (w : Wiring) (value : S → C → Type 0) (ts : TableState S View) (id e k : ℕ) (v v' : View) → v'.fresh ≡ false → (board : IsBoard b w value ts) → get_elem? ts.views id ≡ some v → e < w.plan.elements → MayTouch w v (owner_of w.layout k) ⊎ MayTouch w v (reader_of w.layout k)
     → v'.holds ≡ v.holds → v'.sends ≡ v.sends → v'.resets ≡ v.resets → v'.out ≡ k ∷ v.out → v'.ended ≡ v.ended → knows_stop v' ≡ knows_stop v
     → ((u : ℕ) → u < w.plan.elements → seen_run u v'.notes ≤ run_number (played b (shape_of w.plan) (start (shape_of w.plan)) board.events u))
     → IsBoard b w value (record { words = set ts.words (e + 2) (get_or ts.words (e + 2) 0); homes = set ts.homes k none; views = set ts.views id v' })
-taken {C} {S} b w value ts id e k v v' stale board at below mine of_e same_holds same_sends same_resets out_is same_ended same_stopped notes =
+taken_under {C} {S} b w value ts id e k v v' stale board at below may same_holds same_sends same_resets out_is same_ended same_stopped notes =
     let core : State C = played b (shape_of w.plan) (start (shape_of w.plan)) board.events in
     stays b w value ts (armings w ts) (set ts.homes k none) id e (get_or ts.words (e + 2) 0) v v' stale below board at
     (same_changes id e (get_or ts.words (e + 2) 0) v v' board.wired board.shows at (board.shows.words_are e below) same_holds same_sends same_resets (inl same_ended) same_stopped notes)
@@ -114,27 +114,41 @@ taken {C} {S} b w value ts id e k v v' stale board at below mine of_e same_holds
           | inr h ↦ inr (sym (elem_set_other ts.homes k j none (apart_of j k q)) ∙ gone, h)
         ]
       ];
-      out = λ j some_j. subst (λ (hs : List (ℕ × ℕ)). (0 < times (owner_of w.layout j) hs) ⊎ (0 < times (reader_of w.layout j) hs)) (sym same_holds) (out_of j (sym (ap (has j) out_is) ∙ some_j));
+      out = λ j some_j. same_may j (out_of j (sym (ap (has j) out_is) ∙ some_j));
     })
   where
     only_rest : (c h : Bool) → c ≡ false → (c || h) ≡ true → h ≡ true
     only_rest true h q s = absurd (cc)
     only_rest false h q s = s
 
-    out_of : (j : ℕ) → has j (k ∷ v.out) ≡ true → (0 < times (owner_of w.layout j) v.holds) ⊎ (0 < times (reader_of w.layout j) v.holds)
+    out_of : (j : ℕ) → has j (k ∷ v.out) ≡ true → MayTouch w v (owner_of w.layout j) ⊎ MayTouch w v (reader_of w.layout j)
     out_of j some_j = elim (cases (j == k)) [
-      | inl q ↦
-          let jk = same j k q in
-          elim of_e [
-            | inl o ↦ inl (subst (λ (u : ℕ). 0 < times u v.holds) (sym (ap (owner_of w.layout) jk ∙ o)) mine)
-            | inr o ↦ inr (subst (λ (u : ℕ). 0 < times u v.holds) (sym (ap (reader_of w.layout) jk ∙ o)) mine)
-          ]
+      | inl q ↦ subst (λ (i : ℕ). MayTouch w v (owner_of w.layout i) ⊎ MayTouch w v (reader_of w.layout i)) (sym (same j k q)) may
       | inr q ↦ board.shows.out_is id v at j (only_rest (j == k) (has j v.out) q some_j)
     ]
 
+    touch : (u : ℕ) → MayTouch w v u → MayTouch w v' u
+    touch u (inl h) = inl (subst (λ (hs : List (ℕ × ℕ)). 0 < times u hs) (sym same_holds) h)
+    touch u (inr h) = inr (h.0, h.1, subst (λ (hs : List (ℕ × ℕ)). 0 < times h.0 hs) (sym same_holds) h.2, h.3)
+
+    same_may : (j : ℕ) → MayTouch w v (owner_of w.layout j) ⊎ MayTouch w v (reader_of w.layout j) → MayTouch w v' (owner_of w.layout j) ⊎ MayTouch w v' (reader_of w.layout j)
+    same_may j (inl h) = inl (touch (owner_of w.layout j) h)
+    same_may j (inr h) = inr (touch (reader_of w.layout j) h)
+
+-- a load takes a slot of a Hold's element, and may note something that is so
+pub taken : {C S : Type 0} (b : Behaviour C) (w : Wiring) (value : S → C → Type 0) (ts : TableState S View) (id e k : ℕ) (v v' : View) → v'.fresh ≡ false → (board : IsBoard b w value ts) → get_elem? ts.views id ≡ some v → e < w.plan.elements → 0 < times e v.holds → (owner_of w.layout k ≡ e) ⊎ (reader_of w.layout k ≡ e)
+    → v'.holds ≡ v.holds → v'.sends ≡ v.sends → v'.resets ≡ v.resets → v'.out ≡ k ∷ v.out → v'.ended ≡ v.ended → knows_stop v' ≡ knows_stop v
+    → ((u : ℕ) → u < w.plan.elements → seen_run u v'.notes ≤ run_number (played b (shape_of w.plan) (start (shape_of w.plan)) board.events u))
+    → IsBoard b w value (record { words = set ts.words (e + 2) (get_or ts.words (e + 2) 0); homes = set ts.homes k none; views = set ts.views id v' })
+taken b w value ts id e k v v' stale board at below mine of_e = taken_under b w value ts id e k v v' stale board at below (of_one of_e)
+  where
+    of_one : (owner_of w.layout k ≡ e) ⊎ (reader_of w.layout k ≡ e) → MayTouch w v (owner_of w.layout k) ⊎ MayTouch w v (reader_of w.layout k)
+    of_one (inl q) = inl (inl (subst (λ (u : ℕ). 0 < times u v.holds) (sym q) mine))
+    of_one (inr q) = inr (inl (subst (λ (u : ℕ). 0 < times u v.holds) (sym q) mine))
+
 -- a load gives back what is out, as it was
-pub given : {C S : Type 0} (b : Behaviour C) (w : Wiring) (value : S → C) (ts : TableState S View) (id e : ℕ) (v : View) (xs : List (ℕ × S)) → (board : IsBoard b w value ts) → get_elem? ts.views id ≡ some v → e < w.plan.elements → length ts.homes ≡ slots_of w.layout → v.out ≡ slots_in xs
-    → AllRight (λ k x. value x ≡ cell_in b (played b (shape_of w.plan) (start (shape_of w.plan)) board.events) (owner_of w.layout k)) xs
+pub given : {C S : Type 0} (b : Behaviour C) (w : Wiring) (value : S → C → Type 0) (ts : TableState S View) (id e : ℕ) (v : View) (xs : List (ℕ × S)) → (board : IsBoard b w value ts) → get_elem? ts.views id ≡ some v → e < w.plan.elements → length ts.homes ≡ slots_of w.layout → v.out ≡ slots_in xs
+    → AllRight (λ k x. value x (cell_in b (played b (shape_of w.plan) (start (shape_of w.plan)) board.events) (owner_of w.layout k))) xs
     → IsBoard b w value (record { words = set ts.words (e + 2) (get_or ts.words (e + 2) 0); homes = homes_after ts.homes xs (gives_all (length xs)); views = set ts.views id (idle v) })
 given {C} {S} b w value ts id e v xs board at below long out all =
     let core : State C = played b (shape_of w.plan) (start (shape_of w.plan)) board.events in

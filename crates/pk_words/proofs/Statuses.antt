@@ -38,7 +38,7 @@ sends_of : {C : Type 0} (c : Bool) (st : Status) (x : Element C) → (if c then 
 sends_of true st x = refl
 sends_of false st x = refl
 
-pub status_changes : {C S : Type 0} {b : Behaviour C} {w : Wiring} {value : S → C} {s : State C} {ts : TableState S View} (st : Status) (id e n : ℕ) (v v' : View) → IsWired b w → Shows b w value s ts → get_elem? ts.views id ≡ some v
+pub status_changes : {C S : Type 0} {b : Behaviour C} {w : Wiring} {value : S → C → Type 0} {s : State C} {ts : TableState S View} (st : Status) (id e n : ℕ) (v v' : View) → IsWired b w → Shows b w value s ts → get_elem? ts.views id ≡ some v
     → armings w ts e ≡ 0
     → n ≡ run_number (s e) * 1048576 + low st
     → v'.sends ≡ v.sends
@@ -85,16 +85,16 @@ status_changes {C} {S} {b} {w} {value} {s} {ts} st id e n v v' wired sh at none 
     stay x r free = restart_else w.plan s (with_status_at s e st) e x (λ u ne. let q = neq u e ne in rw q refl) no_wait (no_head x r free) r
 
 -- Homes stay, and the pass has no slot out.
-pub no_moves : {C S : Type 0} {b : Behaviour C} {w : Wiring} {value : S → C} {s : State C} {ts : TableState S View} (t : State C) (v v' : View) → Shows b w value s ts → v.out ≡ [] → v'.out ≡ []
+pub no_moves : {C S : Type 0} {b : Behaviour C} {w : Wiring} {value : S → C → Type 0} {s : State C} {ts : TableState S View} (t : State C) (v v' : View) → Shows b w value s ts → v.out ≡ [] → v'.out ≡ []
     → ((u : ℕ) → (t u).made ≡ (s u).made)
     → Moves b w value t ts.homes ts.homes v v'
 no_moves {C} {S} {b} {w} {value} {s} {ts} t v v' sh out out' made = record {
-  homes = λ k x at. sh.homes_are k x at ∙ ap (newest (b.first (owner_of w.layout k))) (sym (made (owner_of w.layout k)));
+  homes = λ k x at. subst (value x) (ap (newest (b.first (owner_of w.layout k))) (sym (made (owner_of w.layout k)))) (sh.homes_are k x at);
   away = λ k gone. inr (gone, ap (has k) out);
   out = λ k some_k. absurd (let h : false ≡ true = sym (ap (has k) out') ∙ some_k in cc);
 }
 
-pub offered : {C S : Type 0} (b : Behaviour C) (w : Wiring) (value : S → C) (ts : TableState S View) (id e : ℕ) (v : View) → IsBoard b w value ts → get_elem? ts.views id ≡ some v → e < w.plan.elements → 0 < times e v.holds → v.out ≡ []
+pub offered : {C S : Type 0} (b : Behaviour C) (w : Wiring) (value : S → C → Type 0) (ts : TableState S View) (id e : ℕ) (v : View) → IsBoard b w value ts → get_elem? ts.views id ≡ some v → e < w.plan.elements → 0 < times e v.holds → v.out ≡ []
     → IsBoard b w value (record { words = set ts.words (e + 2) (number_of e v.holds * 1048576 + 262144); homes = ts.homes; views = set ts.views id (offer_view e v) })
 offered {C} {S} b w value ts id e v board at below mine no_out =
     let core : State C = played b (shape_of w.plan) (start (shape_of w.plan)) board.events in
@@ -124,7 +124,7 @@ offered {C} {S} b w value ts id e v board at below mine no_out =
     (no_moves (after b (shape_of w.plan) core (Offer e)) v (offer_view e v) board.shows no_out refl (λ u. made_of (u == e) Open (core u)))
 
 -- a pass that finds a word notes its run
-pub found_noted : {C S : Type 0} (b : Behaviour C) (w : Wiring) (value : S → C) (ts : TableState S View) (id e : ℕ) (v : View) → (board : IsBoard b w value ts) → get_elem? ts.views id ≡ some v → e < w.plan.elements
+pub found_noted : {C S : Type 0} (b : Behaviour C) (w : Wiring) (value : S → C → Type 0) (ts : TableState S View) (id e : ℕ) (v : View) → (board : IsBoard b w value ts) → get_elem? ts.views id ≡ some v → e < w.plan.elements
     → (u : ℕ) → u < w.plan.elements → seen_run u ((e, get_or ts.words (e + 2) 0) ∷ v.notes) ≤ run_number (played b (shape_of w.plan) (start (shape_of w.plan)) board.events u)
 found_noted {C} {S} b w value ts id e v board at below u low_u =
     let core : State C = played b (shape_of w.plan) (start (shape_of w.plan)) board.events in
@@ -132,14 +132,14 @@ found_noted {C} {S} b w value ts id e v board at below u low_u =
     seen_next (λ (j : ℕ). run_number (core j)) e (get_or ts.words (e + 2) 0) v.notes u (omega (arith, r)) (board.shows.noted id v at u low_u)
 
 -- and no earlier run than before
-pub found_later : {C S : Type 0} (b : Behaviour C) (w : Wiring) (value : S → C) (ts : TableState S View) (id e : ℕ) (v : View) → (board : IsBoard b w value ts) → get_elem? ts.views id ≡ some v → e < w.plan.elements
+pub found_later : {C S : Type 0} (b : Behaviour C) (w : Wiring) (value : S → C → Type 0) (ts : TableState S View) (id e : ℕ) (v : View) → (board : IsBoard b w value ts) → get_elem? ts.views id ≡ some v → e < w.plan.elements
     → seen_run e v.notes ≤ get_or ts.words (e + 2) 0 / 1048576
 found_later {C} {S} b w value ts id e v board at below =
     let core : State C = played b (shape_of w.plan) (start (shape_of w.plan)) board.events in
     let r = run_shown (armings w ts e) (core e) (get_or ts.words (e + 2) 0) (narrow b w value ts board e) (sym (board.shows.words_are e below)) in
     omega (arith, r, board.shows.noted id v at e below)
 
-pub claimed : {C S : Type 0} (b : Behaviour C) (w : Wiring) (value : S → C) (ts : TableState S View) (id e : ℕ) (v : View) → (board : IsBoard b w value ts) → get_elem? ts.views id ≡ some v → e < w.plan.elements
+pub claimed : {C S : Type 0} (b : Behaviour C) (w : Wiring) (value : S → C → Type 0) (ts : TableState S View) (id e : ℕ) (v : View) → (board : IsBoard b w value ts) → get_elem? ts.views id ≡ some v → e < w.plan.elements
     → (played b (shape_of w.plan) (start (shape_of w.plan)) board.events e).status ≡ Open
     → get_or ts.words (e + 2) 0 / 1048576 ≡ run_number (played b (shape_of w.plan) (start (shape_of w.plan)) board.events e) → v.out ≡ []
     → IsBoard b w value (record { words = set ts.words (e + 2) (get_or ts.words (e + 2) 0 / 1048576 * 1048576); homes = ts.homes; views = set ts.views id (claim_view e (get_or ts.words (e + 2) 0) v) })
@@ -170,7 +170,7 @@ claimed {C} {S} b w value ts id e v board at below is_open run_is no_out =
     (no_moves (after b (shape_of w.plan) core (Claim e)) v (claim_view e found v) board.shows no_out refl (λ u. made_of (u == e) Held (core u)))
 
 -- a step that changes no element
-pub same_changes : {C S : Type 0} {b : Behaviour C} {w : Wiring} {value : S → C} {s : State C} {ts : TableState S View} (id e n : ℕ) (v v' : View) → IsWired b w → Shows b w value s ts → get_elem? ts.views id ≡ some v → n ≡ word_shown (armings w ts e) (s e)
+pub same_changes : {C S : Type 0} {b : Behaviour C} {w : Wiring} {value : S → C → Type 0} {s : State C} {ts : TableState S View} (id e n : ℕ) (v v' : View) → IsWired b w → Shows b w value s ts → get_elem? ts.views id ≡ some v → n ≡ word_shown (armings w ts e) (s e)
     → v'.holds ≡ v.holds → v'.sends ≡ v.sends → v'.resets ≡ v.resets → v'.ended ≡ v.ended ⊎ ((s (end_of w.plan)).status ≡ Done) → knows_stop v' ≡ knows_stop v
     → ((u : ℕ) → u < w.plan.elements → seen_run u v'.notes ≤ run_number (s u))
     → Changes w s s (armings w ts) (armings w ts) e n v v'
@@ -199,7 +199,7 @@ same_changes {C} {S} {b} {w} {value} {s} {ts} id e n v v' wired sh at is h x sam
 }
 
 -- a word is found
-pub loaded : {C S : Type 0} (b : Behaviour C) (w : Wiring) (value : S → C) (ts : TableState S View) (id e : ℕ) (v : View) → (board : IsBoard b w value ts) → get_elem? ts.views id ≡ some v → e < w.plan.elements → v.out ≡ []
+pub loaded : {C S : Type 0} (b : Behaviour C) (w : Wiring) (value : S → C → Type 0) (ts : TableState S View) (id e : ℕ) (v : View) → (board : IsBoard b w value ts) → get_elem? ts.views id ≡ some v → e < w.plan.elements → v.out ≡ []
     → IsBoard b w value (record { words = set ts.words (e + 2) (get_or ts.words (e + 2) 0); homes = ts.homes; views = set ts.views id (note_view e (get_or ts.words (e + 2) 0) v) })
 loaded {C} {S} b w value ts id e v board at below no_out =
     let core : State C = played b (shape_of w.plan) (start (shape_of w.plan)) board.events in
@@ -209,7 +209,7 @@ loaded {C} {S} b w value ts id e v board at below no_out =
     (no_moves core v (note_view e n v) board.shows no_out refl (λ u. refl))
 
 -- the last element is found done
-pub ended : {C S : Type 0} (b : Behaviour C) (w : Wiring) (value : S → C) (ts : TableState S View) (id : ℕ) (v : View) → (board : IsBoard b w value ts) → get_elem? ts.views id ≡ some v → (played b (shape_of w.plan) (start (shape_of w.plan)) board.events (end_of w.plan)).status ≡ Done → v.out ≡ []
+pub ended : {C S : Type 0} (b : Behaviour C) (w : Wiring) (value : S → C → Type 0) (ts : TableState S View) (id : ℕ) (v : View) → (board : IsBoard b w value ts) → get_elem? ts.views id ≡ some v → (played b (shape_of w.plan) (start (shape_of w.plan)) board.events (end_of w.plan)).status ≡ Done → v.out ≡ []
     → IsBoard b w value (record { words = set ts.words (end_of w.plan + 2) (get_or ts.words (end_of w.plan + 2) 0); homes = ts.homes; views = set ts.views id (end_view (end_of w.plan) (get_or ts.words (end_of w.plan + 2) 0) v) })
 ended {C} {S} b w value ts id v board at done no_out =
     let core : State C = played b (shape_of w.plan) (start (shape_of w.plan)) board.events in

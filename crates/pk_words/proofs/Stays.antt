@@ -19,7 +19,7 @@ use Rattle.pk_layout.specs.Wirings.{Wiring, IsWired}
 use Rattle.pk_words.specs.declared.view.View.{View}
 use Rattle.pk_words.specs.Tokens.{times, number_of, heading, pending, seen_run, total, one_if_held, one_if_any}
 use Rattle.pk_words.specs.Views.{knows_stop}
-use Rattle.pk_words.specs.Board.{low, word_shown, head_of, members_at, IsRestarting, why_of, Shows, IsBoard}
+use Rattle.pk_words.specs.Board.{low, word_shown, head_of, members_at, IsRestarting, why_of, MayTouch, Shows, IsBoard}
 use Rattle.pk_words.proofs.Lists.{total_set, parts, elem_set, heading_some}
 use Rattle.pk_words.proofs.Wired.{head_below}
 
@@ -54,10 +54,10 @@ pub record Changes {C : Type 0} (w : Wiring) (s t : State C) (left left' : ℕ �
   pub stopped : knows_stop v' ≡ knows_stop v
 
 -- The slots at home become hs'.
-pub record Moves {C S : Type 0} (b : Behaviour C) (w : Wiring) (value : S → C) (t : State C) (hs hs' : List (Option S)) (v v' : View) : Type 0 where
-  pub homes : (k : ℕ) (x : S) → get_elem? hs' k ≡ some (some x) → value x ≡ cell_in b t (owner_of w.layout k)
+pub record Moves {C S : Type 0} (b : Behaviour C) (w : Wiring) (value : S → C → Type 0) (t : State C) (hs hs' : List (Option S)) (v v' : View) : Type 0 where
+  pub homes : (k : ℕ) (x : S) → get_elem? hs' k ≡ some (some x) → value x (cell_in b t (owner_of w.layout k))
   pub away : (k : ℕ) → get_elem? hs' k ≡ some none → (has k v'.out ≡ true) ⊎ ((get_elem? hs k ≡ some none) × (has k v.out ≡ false))
-  pub out : (k : ℕ) → has k v'.out ≡ true → (0 < times (owner_of w.layout k) v'.holds) ⊎ (0 < times (reader_of w.layout k) v'.holds)
+  pub out : (k : ℕ) → has k v'.out ≡ true → MayTouch w v' (owner_of w.layout k) ⊎ MayTouch w v' (reader_of w.layout k)
 
 -- a token of the stepping pass is no other's
 no_other : (f : View → ℕ) (views : List View) (id k : ℕ) (v x : View) (m : ℕ) → get_elem? views id ≡ some v → get_elem? views k ≡ some x → k ≢ id → total f views ≡ m → m ≤ f v → 0 < f x → ⊥
@@ -86,7 +86,7 @@ elem_below [] id v h = absurd (cc)
 elem_below (x ∷ xs) zero v h = omega arith
 elem_below (x ∷ xs) (suc id) v h = omega (arith, elem_below xs id v h)
 
-pub shows_step : {C S : Type 0} (b : Behaviour C) (w : Wiring) (value : S → C) (s t : State C) (st : TableState S View) (left' : ℕ → ℕ) (hs' : List (Option S)) (id e n : ℕ) (v v' : View)
+pub shows_step : {C S : Type 0} (b : Behaviour C) (w : Wiring) (value : S → C → Type 0) (s t : State C) (st : TableState S View) (left' : ℕ → ℕ) (hs' : List (Option S)) (id e n : ℕ) (v v' : View)
     → IsWired b w → e < w.plan.elements → Shows b w value s st → get_elem? st.views id ≡ some v → Changes w s t (armings w st) left' e n v v' → Moves b w value t st.homes hs' v v'
     → Shows b w value t (record { words = set st.words (e + 2) n; homes = hs'; views = set st.views id v' })
 shows_step {C} {S} b w value s t st left' hs' id e n v v' wired below sh at ch mv = record {
@@ -131,7 +131,7 @@ shows_step {C} {S} b w value s t st left' hs' id e n v v' wired below sh at ch m
         (a.0, a.1, elem_off st.views id a.0 v' ne ∙ a.2, a.3)
   ];
   out_is = λ j x has_x k out_k. elim (elem_set st.views id j v' x has_x) [
-    | inl q ↦ subst (λ (y : View). (0 < times (owner_of w.layout k) y.holds) ⊎ (0 < times (reader_of w.layout k) y.holds)) q.1 (mv.out k (subst (λ (y : View). has k y.out ≡ true) (sym q.1) out_k))
+    | inl q ↦ subst (λ (y : View). MayTouch w y (owner_of w.layout k) ⊎ MayTouch w y (reader_of w.layout k)) q.1 (mv.out k (subst (λ (y : View). has k y.out ≡ true) (sym q.1) out_k))
     | inr q ↦ sh.out_is j x q.1 k out_k
   ];
   bounded = λ u. ch.bounded u (sh.bounded u);
@@ -191,7 +191,7 @@ none_fresh views id v v' at stale alone k x here fresh = elim (elem_set views id
 ]
 
 -- a step that makes an event
-pub makes : {C S : Type 0} (b : Behaviour C) (w : Wiring) (value : S → C) (st : TableState S View) (left' : ℕ → ℕ) (hs' : List (Option S)) (id e n : ℕ) (v v' : View) (ev : Event)
+pub makes : {C S : Type 0} (b : Behaviour C) (w : Wiring) (value : S → C → Type 0) (st : TableState S View) (left' : ℕ → ℕ) (hs' : List (Option S)) (id e n : ℕ) (v v' : View) (ev : Event)
     → v'.fresh ≡ false → e < w.plan.elements → (board : IsBoard b w value st) → get_elem? st.views id ≡ some v
     → Enabled b (shape_of w.plan) (played b (shape_of w.plan) (start (shape_of w.plan)) board.events) ev
     → Changes w (played b (shape_of w.plan) (start (shape_of w.plan)) board.events) (after b (shape_of w.plan) (played b (shape_of w.plan) (start (shape_of w.plan)) board.events) ev) (armings w st) left' e n v v'
@@ -208,7 +208,7 @@ makes {C} {S} b w value st left' hs' id e n v v' ev stale below board at can ch 
     }
 
 -- a step that makes none
-pub stays : {C S : Type 0} (b : Behaviour C) (w : Wiring) (value : S → C) (st : TableState S View) (left' : ℕ → ℕ) (hs' : List (Option S)) (id e n : ℕ) (v v' : View)
+pub stays : {C S : Type 0} (b : Behaviour C) (w : Wiring) (value : S → C → Type 0) (st : TableState S View) (left' : ℕ → ℕ) (hs' : List (Option S)) (id e n : ℕ) (v v' : View)
     → v'.fresh ≡ false → e < w.plan.elements → (board : IsBoard b w value st) → get_elem? st.views id ≡ some v
     → Changes w (played b (shape_of w.plan) (start (shape_of w.plan)) board.events) (played b (shape_of w.plan) (start (shape_of w.plan)) board.events) (armings w st) left' e n v v'
     → Moves b w value (played b (shape_of w.plan) (start (shape_of w.plan)) board.events) st.homes hs' v v'

@@ -35,11 +35,11 @@ use Rattle.pk_words.proofs.Slots.{gives_all, valid_gives, carried_gives, taken, 
 use Rattle.pk_words.proofs.Sends.{sent_is, target_found}
 use Rattle.pk_words.proofs.Runs.{finished}
 
-pub agrees_at : {C S : Type 0} (b : Behaviour C) (w : Wiring) (value : S → C) (s : TableState S View) (board : IsBoard b w value s) (order : Level) (ends : Ends b order) → IsOrderOf (shape_of w.plan) order → Agrees b (shape_of w.plan) (trace ends) (played b (shape_of w.plan) (start (shape_of w.plan)) board.events)
+pub agrees_at : {C S : Type 0} (b : Behaviour C) (w : Wiring) (value : S → C → Type 0) (s : TableState S View) (board : IsBoard b w value s) (order : Level) (ends : Ends b order) → IsOrderOf (shape_of w.plan) order → Agrees b (shape_of w.plan) (trace ends) (played b (shape_of w.plan) (start (shape_of w.plan)) board.events)
 agrees_at b w value s board order ends ordered = (every_play b (shape_of w.plan) order ends.made (axioms_of board.wired) (fits_of board.wired) ordered (last_in board.wired) ends.whole board.events board.enabled).0
 
 -- a load of an element's word
-pub loads : {C S : Type 0} (b : Behaviour C) (w : Wiring) (value : S → C) (slots id e : ℕ) (me : Me S View) → e < w.plan.elements → IsIdle me → Allows (IsBoard b w value) slots id me (e + 2) (λ n. n) (Noted e me)
+pub loads : {C S : Type 0} (b : Behaviour C) (w : Wiring) (value : S → C → Type 0) (slots id e : ℕ) (me : Me S View) → e < w.plan.elements → IsIdle me → Allows (IsBoard b w value) slots id me (e + 2) (λ n. n) (Noted e me)
 loads {C} {S} b w value slots id e me below no_slot s board long at fits = (
   note_view e (get_or s.words (e + 2) 0) me.0,
   keeps,
@@ -48,7 +48,7 @@ loads {C} {S} b w value slots id e me below no_slot s board long at fits = (
   (ap (λ (xs : List (ℕ × S)). (note_view e (get_or s.words (e + 2) 0) me.0, xs)) no_slot.0, found_later b w value s id e me.0 board at below),
 )
 
-pub offers : {C S : Type 0} (b : Behaviour C) (w : Wiring) (value : S → C) (slots id e run : ℕ) (me : Me S View) → e < w.plan.elements → IsIdle me → HasHold me.0 e run → Allows (IsBoard b w value) slots id me (e + 2) (λ _. run * 1048576 + 262144) (λ _. Offered e me (run * 1048576 + 262144))
+pub offers : {C S : Type 0} (b : Behaviour C) (w : Wiring) (value : S → C → Type 0) (slots id e run : ℕ) (me : Me S View) → e < w.plan.elements → IsIdle me → HasHold me.0 e run → Allows (IsBoard b w value) slots id me (e + 2) (λ _. run * 1048576 + 262144) (λ _. Offered e me (run * 1048576 + 262144))
 offers {C} {S} b w value slots id e run me below no_slot hold s board long at fits = (
   offer_view e me.0,
   keeps,
@@ -58,10 +58,10 @@ offers {C} {S} b w value slots id e run me below no_slot hold s board long at fi
 )
 
 -- an element that isn't done runs again
-pub counts_at : {C S : Type 0} (b : Behaviour C) (w : Wiring) (value : S → C) (s : TableState S View) (board : IsBoard b w value s) (e run : ℕ) → e < w.plan.elements → (played b (shape_of w.plan) (start (shape_of w.plan)) board.events e).status ≢ Done → run ≡ run_number (played b (shape_of w.plan) (start (shape_of w.plan)) board.events e) → Counts b w e run
+pub counts_at : {C S : Type 0} (b : Behaviour C) (w : Wiring) (value : S → C → Type 0) (s : TableState S View) (board : IsBoard b w value s) (e run : ℕ) → e < w.plan.elements → (played b (shape_of w.plan) (start (shape_of w.plan)) board.events e).status ≢ Done → run ≡ run_number (played b (shape_of w.plan) (start (shape_of w.plan)) board.events e) → Counts b w e run
 counts_at b w value s board e run below ne is = (omega (arith, board.shows.bounded e, is), λ order ends ordered. omega (arith, (agrees_at b w value s board order ends ordered).fewer e below ne, is))
 
-pub claims : {C S : Type 0} (b : Behaviour C) (w : Wiring) (value : S → C) (slots id e asked : ℕ) (me : Me S View) → e < w.plan.elements → IsIdle me → asked % 1048576 ≡ 262144 → Allows (IsBoard b w value) slots id me (e + 2) (λ n. either (n == asked) (asked - 262144) n) (Claimed b w e asked me)
+pub claims : {C S : Type 0} (b : Behaviour C) (w : Wiring) (value : S → C → Type 0) (slots id e asked : ℕ) (me : Me S View) → e < w.plan.elements → IsIdle me → asked % 1048576 ≡ 262144 → Allows (IsBoard b w value) slots id me (e + 2) (λ n. either (n == asked) (asked - 262144) n) (Claimed b w e asked me)
 claims {C} {S} b w value slots id e asked me below no_slot open_low s board long at fits = by_found (get_or s.words (e + 2) 0 == asked) refl
   where
     found : ℕ
@@ -104,8 +104,8 @@ claims {C} {S} b w value slots id e asked me below no_slot open_low s board long
     )
 
 -- a slot of a Hold's element is taken
-pub takes_slot : {C S : Type 0} (b : Behaviour C) (w : Wiring) (value : S → C) (slots id e k : ℕ) (me : Me S View) (right : S → Type 0) → slots ≡ slots_of w.layout → e < w.plan.elements → 0 < times e me.0.holds → k < slots_of w.layout → (owner_of w.layout k ≡ e) ⊎ (reader_of w.layout k ≡ e) → has k me.0.out ≡ false
-    → ((s : TableState S View) (board : IsBoard b w value s) → get_elem? s.views id ≡ some me.0 → (x : S) → value x ≡ cell_in b (played b (shape_of w.plan) (start (shape_of w.plan)) board.events) (owner_of w.layout k) → right x)
+pub takes_slot : {C S : Type 0} (b : Behaviour C) (w : Wiring) (value : S → C → Type 0) (slots id e k : ℕ) (me : Me S View) (right : S → Type 0) → slots ≡ slots_of w.layout → e < w.plan.elements → 0 < times e me.0.holds → k < slots_of w.layout → (owner_of w.layout k ≡ e) ⊎ (reader_of w.layout k ≡ e) → has k me.0.out ≡ false
+    → ((s : TableState S View) (board : IsBoard b w value s) → get_elem? s.views id ≡ some me.0 → (x : S) → value x (cell_in b (played b (shape_of w.plan) (start (shape_of w.plan)) board.events) (owner_of w.layout k)) → right x)
     → Allows (IsBoard b w value) slots id me (e + 2) (λ n. n) (Taken right k me)
 takes_slot {C} {S} b w value slots id e k me right count below mine in_slots of_e not_out tells s board long at fits =
     let h = at_home b w value s board id e k me.0 at below mine in_slots (long ∙ count) of_e not_out in (
@@ -122,17 +122,17 @@ get_map f (y ∷ xs) zero x h = ap Some (ap f (cc))
 get_map f (y ∷ xs) (suc i) x h = get_map f xs i x h
 
 -- A Hold reads what the recursion reads.
-pub reads_at : {C S : Type 0} (b : Behaviour C) (w : Wiring) (value : S → C) (s : TableState S View) (board : IsBoard b w value s) (id e run : ℕ) (v : View) → get_elem? s.views id ≡ some v → e < w.plan.elements → HasHold v e run → (order : Level) (ends : Ends b order) → IsOrderOf (shape_of w.plan) order → inputs_of b (played b (shape_of w.plan) (start (shape_of w.plan)) board.events) e ≡ values_read b (trace ends) e (run + 1)
+pub reads_at : {C S : Type 0} (b : Behaviour C) (w : Wiring) (value : S → C → Type 0) (s : TableState S View) (board : IsBoard b w value s) (id e run : ℕ) (v : View) → get_elem? s.views id ≡ some v → e < w.plan.elements → HasHold v e run → (order : Level) (ends : Ends b order) → IsOrderOf (shape_of w.plan) order → inputs_of b (played b (shape_of w.plan) (start (shape_of w.plan)) board.events) e ≡ values_read b (trace ends) e (run + 1)
 reads_at {C} b w value s board id e run v at below hold order ends ordered =
     let r : run_number (played b (shape_of w.plan) (start (shape_of w.plan)) board.events e) ≡ run = sym (board.shows.runs_are id v at e below hold.0) ∙ hold.1 in
     (agrees_at b w value s board order ends ordered).reads e below (held board.shows id e v at below hold.0) ∙ ap (λ (k : ℕ). values_read b (trace ends) e (k + 1)) r
 
-pub read_at : {C S : Type 0} (b : Behaviour C) (w : Wiring) (value : S → C) (s : TableState S View) (board : IsBoard b w value s) (id e run place u : ℕ) (v : View) → get_elem? s.views id ≡ some v → e < w.plan.elements → HasHold v e run → slice_get (b.reads e) place ≡ Some u → IsReadAt b w.plan e (run + 1) place (cell_in b (played b (shape_of w.plan) (start (shape_of w.plan)) board.events) u)
+pub read_at : {C S : Type 0} (b : Behaviour C) (w : Wiring) (value : S → C → Type 0) (s : TableState S View) (board : IsBoard b w value s) (id e run place u : ℕ) (v : View) → get_elem? s.views id ≡ some v → e < w.plan.elements → HasHold v e run → slice_get (b.reads e) place ≡ Some u → IsReadAt b w.plan e (run + 1) place (cell_in b (played b (shape_of w.plan) (start (shape_of w.plan)) board.events) u)
 read_at {C} b w value s board id e run place u v at below hold is order ends ordered =
     ap (λ (xs : List C). slice_get xs place) (sym (reads_at b w value s board id e run v at below hold order ends ordered)) ∙ get_map (cell_in b (played b (shape_of w.plan) (start (shape_of w.plan)) board.events)) (b.reads e) place u is
 
 -- the slot of what a run reads at a place is taken
-pub takes_input : {C S : Type 0} (b : Behaviour C) (w : Wiring) (value : S → C) (slots id e run place k : ℕ) (me : Me S View) → slots ≡ slots_of w.layout → e < w.plan.elements → HasHold me.0 e run → IsInputSlot b w.layout e place k → has k me.0.out ≡ false
+pub takes_input : {C S : Type 0} (b : Behaviour C) (w : Wiring) (value : S → C → Type 0) (slots id e run place k : ℕ) (me : Me S View) → slots ≡ slots_of w.layout → e < w.plan.elements → HasHold me.0 e run → IsInputSlot b w.layout e place k → has k me.0.out ≡ false
     → Allows (IsBoard b w value) slots id me (e + 2) (λ n. n) (InputTaken b w value e run place (owner_of w.layout k) k me)
 takes_input {C} {S} b w value slots id e run place k me count below hold input not_out s board long at fits =
     let core : State C = played b (shape_of w.plan) (start (shape_of w.plan)) board.events in
@@ -150,8 +150,12 @@ takes_input {C} {S} b w value slots id e run place k me count below hold input n
         seen,
         refl,
         board.shows.noted id me.0 at u low_u,
-        (λ order ends ordered. sym ((agrees_at b w value s board order ends ordered).cells u) ∙ sym h.2),
-        subst (λ (c : C). IsReadAt b w.plan e (run + 1) place c) (sym h.2) (read_at b w value s board id e run place u me.0 at below hold input.1),
+        (
+          cell_in b core u,
+          h.2,
+          (λ order ends ordered. sym ((agrees_at b w value s board order ends ordered).cells u)),
+          read_at b w value s board id e run place u me.0 at below hold input.1,
+        ),
       ),
     )
 
@@ -159,13 +163,13 @@ some_same : {A : Type 0} (x y : A) → Some x ≡ Some y → x ≡ y
 some_same x y h = cc
 
 -- the one slot that is out goes back
-pub gives_slot : {C S : Type 0} (b : Behaviour C) (w : Wiring) (value : S → C) (slots id e run place k : ℕ) (x : S) (me : Me S View) → slots ≡ slots_of w.layout → e < w.plan.elements → HasHold me.0 e run → me.1 ≡ (k, x) ∷ [] → me.0.out ≡ k ∷ [] → slice_get (b.reads e) place ≡ Some (owner_of w.layout k) → HasEnd b w.plan → IsReadAt b w.plan e (run + 1) place (value x)
+pub gives_slot : {C S : Type 0} (b : Behaviour C) (w : Wiring) (value : S → C → Type 0) (slots id e run place k : ℕ) (x : S) (me : Me S View) → slots ≡ slots_of w.layout → e < w.plan.elements → HasHold me.0 e run → me.1 ≡ (k, x) ∷ [] → me.0.out ≡ k ∷ [] → slice_get (b.reads e) place ≡ Some (owner_of w.layout k) → HasEnd b w.plan → (c : C) → value x c → IsReadAt b w.plan e (run + 1) place c
     → Allows (IsBoard b w value) slots id me (e + 2) (λ n. n) (GivenBack me)
-gives_slot {C} {S} b w value slots id e run place k x me count below hold slot_is out_is here ends right s board long at fits =
+gives_slot {C} {S} b w value slots id e run place k x me count below hold slot_is out_is here ends c has_it right s board long at fits =
     let core : State C = played b (shape_of w.plan) (start (shape_of w.plan)) board.events in
     let now = read_at b w value s board id e run place (owner_of w.layout k) me.0 at below hold here ends.0 ends.1 ends.2 in
     let was = right ends.0 ends.1 ends.2 in
-    let value_is : value x ≡ cell_in b core (owner_of w.layout k) = some_same (value x) (cell_in b core (owner_of w.layout k)) (sym was ∙ now) in (
+    let value_is : value x (cell_in b core (owner_of w.layout k)) = subst (value x) (some_same c (cell_in b core (owner_of w.layout k)) (sym was ∙ now)) has_it in (
       idle me.0,
       gives_all 1,
       valid_gives s.homes me.1 1,
@@ -175,8 +179,8 @@ gives_slot {C} {S} b w value slots id e run place k x me count below hold slot_i
     )
 
 -- the run's cell goes home
-pub finishes : {C S : Type 0} (b : Behaviour C) (w : Wiring) (value : S → C) (slots id e run : ℕ) (c : C) (me : Me S View) → slots ≡ slots_of w.layout → e < w.plan.elements → HasHold me.0 e run → run < w.limit → me.0.out ≡ slots_in me.1
-    → AllRight (λ k x. (value x ≡ c) × (owner_of w.layout k ≡ e)) me.1
+pub finishes : {C S : Type 0} (b : Behaviour C) (w : Wiring) (value : S → C → Type 0) (slots id e run : ℕ) (c : C) (me : Me S View) → slots ≡ slots_of w.layout → e < w.plan.elements → HasHold me.0 e run → run < w.limit → me.0.out ≡ slots_in me.1
+    → AllRight (λ k x. (value x c) × (owner_of w.layout k ≡ e)) me.1
     → ((k : ℕ) → k < slots_of w.layout → owner_of w.layout k ≡ e → has k (slots_in me.1) ≡ true)
     → (order : Level) (ends : Ends b order) → IsOrderOf (shape_of w.plan) order → IsGiven b (exits w.plan e) false e (values_read b (trace ends) e (run + 1)) c
     → Allows (IsBoard b w value) slots id me (e + 2) (λ _. (run + 1) * 1048576 + 262145) (λ _. Finished w.plan e me ((run + 1) * 1048576 + 262145))
@@ -192,7 +196,7 @@ finishes {C} {S} b w value slots id e run c me count below hold room out all eve
 )
 
 -- a send
-pub sends_to : {C S : Type 0} (b : Behaviour C) (w : Wiring) (value : S → C) (slots id a i tgt : ℕ) (me : Me S View) → a < w.plan.elements → IsIdle me → HasSending me.0 a i → i < length (successors_of w.plan a) → tgt ≡ get_or (successors_of w.plan a) i 0
+pub sends_to : {C S : Type 0} (b : Behaviour C) (w : Wiring) (value : S → C → Type 0) (slots id a i tgt : ℕ) (me : Me S View) → a < w.plan.elements → IsIdle me → HasSending me.0 a i → i < length (successors_of w.plan a) → tgt ≡ get_or (successors_of w.plan a) i 0
     → Allows (IsBoard b w value) slots id me (tgt + 2) (λ n. (n + (2 ^ 64 - 1)) % 2 ^ 64) (Sent b w a i me)
 sends_to {C} {S} b w value slots id a i tgt me low_a no_slot sending in_range tgt_is = subst (λ (t : ℕ). Allows (IsBoard b w value) slots id me (t + 2) (λ n. (n + (2 ^ 64 - 1)) % 2 ^ 64) (Sent b w a i me)) (sym tgt_is) (λ s board long at fits.
     let t : ℕ = get_or (successors_of w.plan a) i 0 in
@@ -217,7 +221,7 @@ sends_to {C} {S} b w value slots id a i tgt me low_a no_slot sending in_range tg
     ))
 
 -- the last element is seen done, or not
-pub ends_at : {C S : Type 0} (b : Behaviour C) (w : Wiring) (value : S → C) (slots id : ℕ) (me : Me S View) → IsIdle me → Allows (IsBoard b w value) slots id me (end_of w.plan + 2) (λ n. n) (Ended (end_of w.plan) me)
+pub ends_at : {C S : Type 0} (b : Behaviour C) (w : Wiring) (value : S → C → Type 0) (slots id : ℕ) (me : Me S View) → IsIdle me → Allows (IsBoard b w value) slots id me (end_of w.plan + 2) (λ n. n) (Ended (end_of w.plan) me)
 ends_at {C} {S} b w value slots id me no_slot s board long at fits = by_found (found % 1048576 == 262145) refl
   where
     found : ℕ

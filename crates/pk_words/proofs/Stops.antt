@@ -25,7 +25,7 @@ abbrev pub stop_seen : (stops stop_notes : List ℕ) → View → View
 stop_seen stops stop_notes v = record v { out = []; stops = stops; stop_notes = stop_notes; fresh = false }
 
 -- the stop word becomes n
-shows_stop : {C S : Type 0} (b : Behaviour C) (w : Wiring) (value : S → C) (core : State C) (s : TableState S View) (id n : ℕ) (v : View) (stops stop_notes : List ℕ) → Shows b w value core s → get_elem? s.views id ≡ some v → v.out ≡ []
+shows_stop : {C S : Type 0} (b : Behaviour C) (w : Wiring) (value : S → C → Type 0) (core : State C) (s : TableState S View) (id n : ℕ) (v : View) (stops stop_notes : List ℕ) → Shows b w value core s → get_elem? s.views id ≡ some v → v.out ≡ []
     → ((why : Why) → why_of w.limit n ≡ Some why → IsCause b w why)
     → (get_or s.words 1 0 ≢ 0 → n ≢ 0)
     → (knows_stop (stop_seen stops stop_notes v) ≡ true → n ≢ 0)
@@ -93,7 +93,7 @@ shows_stop {C} {S} b w value core s id n v stops stop_notes sh at no_out cause s
     same_total : (f : View → ℕ) → f (stop_seen stops stop_notes v) ≡ f v → total f (set s.views id (stop_seen stops stop_notes v)) ≡ total f s.views
     same_total f q = omega (arith, total_set f s.views id v (stop_seen stops stop_notes v) at, q)
 
-stop_board : {C S : Type 0} (b : Behaviour C) (w : Wiring) (value : S → C) (s : TableState S View) (id n : ℕ) (v : View) (stops stop_notes : List ℕ) → (board : IsBoard b w value s) → get_elem? s.views id ≡ some v → v.out ≡ []
+stop_board : {C S : Type 0} (b : Behaviour C) (w : Wiring) (value : S → C → Type 0) (s : TableState S View) (id n : ℕ) (v : View) (stops stop_notes : List ℕ) → (board : IsBoard b w value s) → get_elem? s.views id ≡ some v → v.out ≡ []
     → ((why : Why) → why_of w.limit n ≡ Some why → IsCause b w why)
     → (get_or s.words 1 0 ≢ 0 → n ≢ 0)
     → (knows_stop (stop_seen stops stop_notes v) ≡ true → n ≢ 0)
@@ -107,7 +107,7 @@ stop_board {C} {S} b w value s id n v stops stop_notes board at no_out cause sti
 }
 
 -- a store of why
-pub stops : {C S : Type 0} (b : Behaviour C) (w : Wiring) (value : S → C) (slots id n : ℕ) (me : Me S View) → IsIdle me → n ≢ 0 → ((why : Why) → why_of w.limit n ≡ Some why → IsCause b w why) → Allows (IsBoard b w value) slots id me 1 (λ _. n) (λ _. Stopping me n)
+pub stops : {C S : Type 0} (b : Behaviour C) (w : Wiring) (value : S → C → Type 0) (slots id n : ℕ) (me : Me S View) → IsIdle me → n ≢ 0 → ((why : Why) → why_of w.limit n ≡ Some why → IsCause b w why) → Allows (IsBoard b w value) slots id me 1 (λ _. n) (λ _. Stopping me n)
 stops {C} {S} b w value slots id n me no_slot some_n cause s board long at fits = (
   stop_view n me.0,
   keeps,
@@ -117,7 +117,7 @@ stops {C} {S} b w value slots id n me no_slot some_n cause s board long at fits 
 )
 
 -- a load of the stop word
-pub stop_loads : {C S : Type 0} (b : Behaviour C) (w : Wiring) (value : S → C) (slots id : ℕ) (me : Me S View) → IsIdle me → Allows (IsBoard b w value) slots id me 1 (λ n. n) (StopFound b w me)
+pub stop_loads : {C S : Type 0} (b : Behaviour C) (w : Wiring) (value : S → C → Type 0) (slots id : ℕ) (me : Me S View) → IsIdle me → Allows (IsBoard b w value) slots id me 1 (λ n. n) (StopFound b w me)
 stop_loads {C} {S} b w value slots id me no_slot s board long at fits = (
   stop_note_view found me.0,
   keeps,

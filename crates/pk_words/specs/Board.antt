@@ -69,8 +69,14 @@ IsCause b w (RunLimit element run) =
     (element < w.plan.elements) × (run ≡ w.limit + 1)
     × ((order : Level) (ends : Ends b order) → IsOrderOf (shape_of w.plan) order → run ≤ result_count ends element)
 
+-- the view has a Hold of e, or of the exit of a component that has e
+abbrev pub MayTouch : Wiring → View → ℕ → Type 0
+MayTouch w v e =
+    (0 < times e v.holds)
+    ⊎ ((x : ℕ) × (x < w.plan.elements) × (0 < times x v.holds) × (holds w.plan x e ≡ true))
+
 -- This state of the core is shown.
-pub record Shows {C S : Type 0} (b : Behaviour C) (w : Wiring) (value : S → C) (core : State C)
+pub record Shows {C S : Type 0} (b : Behaviour C) (w : Wiring) (value : S → C → Type 0) (core : State C)
     (s : TableState S View) : Type 0 where
   -- word 0 is the seats' own, word 1 says why the board is stopped, and then each element has one
   pub long : length s.words ≡ w.plan.elements + 2
@@ -93,11 +99,11 @@ pub record Shows {C S : Type 0} (b : Behaviour C) (w : Wiring) (value : S → C)
       → (0 < number_of x v.resets) × (number_of x v.resets ≤ length (members_at w.plan x)) × IsRestarting w.plan core x
   pub armed_once : (e : ℕ) → total (λ (v : View). pending (members_at w.plan) e v.resets) s.views ≤ 1
   -- a slot at home holds its owner's cell; away are only slots that a Hold's element writes or reads
-  pub homes_are : (k : ℕ) (x : S) → get_elem? s.homes k ≡ some (some x) → value x ≡ cell_in b core (owner_of w.layout k)
+  pub homes_are : (k : ℕ) (x : S) → get_elem? s.homes k ≡ some (some x) → value x (cell_in b core (owner_of w.layout k))
   pub away : (k : ℕ) → get_elem? s.homes k ≡ some none
       → (id : ℕ) × (v : View) × (get_elem? s.views id ≡ some v) × (has k v.out ≡ true)
   pub out_is : (id : ℕ) (v : View) → get_elem? s.views id ≡ some v → (k : ℕ) → has k v.out ≡ true
-      → (0 < times (owner_of w.layout k) v.holds) ⊎ (0 < times (reader_of w.layout k) v.holds)
+      → MayTouch w v (owner_of w.layout k) ⊎ MayTouch w v (reader_of w.layout k)
   pub bounded : (e : ℕ) → run_number (core e) ≤ w.limit
   -- the words that were found have no later runs
   pub noted : (id : ℕ) (v : View) → get_elem? s.views id ≡ some v → (e : ℕ) → e < w.plan.elements
@@ -107,7 +113,8 @@ pub record Shows {C S : Type 0} (b : Behaviour C) (w : Wiring) (value : S → C)
   pub told : (id : ℕ) (v : View) → get_elem? s.views id ≡ some v → knows_stop v ≡ true → slice_index s.words 1 ≢ 0
 
 -- A list of enabled events exists, and the state after it is shown.
-pub record IsBoard {C S : Type 0} (b : Behaviour C) (w : Wiring) (value : S → C) (s : TableState S View) : Type 0 where
+pub record IsBoard {C S : Type 0} (b : Behaviour C) (w : Wiring) (value : S → C → Type 0)
+    (s : TableState S View) : Type 0 where
   pub wired : IsWired b w
   pub events : List Event
   pub enabled : AllEnabled b (shape_of w.plan) (start (shape_of w.plan)) events

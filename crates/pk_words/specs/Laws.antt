@@ -19,7 +19,7 @@ use Rattle.pk_words.specs.Tokens.{times}
 use Rattle.pk_words.specs.Board.{low, IsBoard}
 
 -- the state of the core that a board shows
-abbrev pub core_of : {C S : Type 0} {b : Behaviour C} {w : Wiring} {value : S → C} {s : TableState S View}
+abbrev pub core_of : {C S : Type 0} {b : Behaviour C} {w : Wiring} {value : S → C → Type 0} {s : TableState S View}
     → IsBoard b w value s → State C
 core_of {b = b} {w = w} board = played b (shape_of w.plan) (start (shape_of w.plan)) board.events
 
@@ -30,15 +30,15 @@ pub record IsSameAt {C : Type 0} (s t : State C) (e : ℕ) : Type 0 where
   pub sends : (s e).sends ≡ (t e).sends
 
 -- One pass, no stop, each element as it stands in the core at the start, and each slot at home with its owner's first cell.
-pub record IsStart {C S : Type 0} (b : Behaviour C) (w : Wiring) (value : S → C) (s : TableState S View)
+pub record IsStart {C S : Type 0} (b : Behaviour C) (w : Wiring) (value : S → C → Type 0) (s : TableState S View)
     : Type 0 where
   pub alone : length s.views ≡ 1
   pub going : slice_index s.words 1 ≡ 0
   pub words : (e : ℕ) → e < w.plan.elements
       → slice_index s.words (e + 2) ≡ low (start_status (predecessors_of w.plan e))
-  pub homes : (k : ℕ) (x : S) → get_elem? s.homes k ≡ some (some x) → value x ≡ b.first (owner_of w.layout k)
+  pub homes : (k : ℕ) (x : S) → get_elem? s.homes k ≡ some (some x) → value x (b.first (owner_of w.layout k))
 
-pub record EveryBoardKeeps {C S : Type 0} (b : Behaviour C) (value : S → C) : Type 0 where
+pub record EveryBoardKeeps {C S : Type 0} (b : Behaviour C) (value : S → C → Type 0) : Type 0 where
   -- the state that a board shows keeps to the recursion over any order of its plan in which it ends
   pub keeps : (w : Wiring) (s : TableState S View) (board : IsBoard b w value s) (order : Level) (ends : Ends b order)
       → IsOrderOf (shape_of w.plan) order → KeepsTo b w.plan ends (core_of board)

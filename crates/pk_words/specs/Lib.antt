@@ -2,6 +2,7 @@ pub mod Tokens
 pub mod Views
 pub mod Subjects
 pub mod Board
+pub mod Kinds
 pub mod Reads
 pub mod Told
 pub mod Laws

@@ -27,13 +27,13 @@ Counts b w e run = (run ≤ w.limit)
     × ((order : Level) (ends : Ends b order) → IsOrderOf (shape_of w.plan) order → run < result_count ends e)
 
 -- An element's first slot has the cell that the recursion leaves, and its word how often it ran, which is no more than the limit.
-pub record IsResult {C S : Type 0} (b : Behaviour C) (w : Wiring) (value : S
-    → C) (words : List ℕ) (slots : List S) {order : Level} (ends : Ends b order) (e : ℕ) : Type 0 where
-  pub cell : (x : S) → get_elem? slots (first_of w.layout e) ≡ some x → value x ≡ result_cell ends e
+pub record IsResult {C S : Type 0} (b : Behaviour C) (w : Wiring) (value : S → C → Type 0)
+    (words : List ℕ) (slots : List S) {order : Level} (ends : Ends b order) (e : ℕ) : Type 0 where
+  pub cell : (x : S) → get_elem? slots (first_of w.layout e) ≡ some x → value x (result_cell ends e)
   pub run : (n : ℕ) → get_elem? words (e + 2) ≡ some n → n / 1048576 ≡ result_count ends e
   pub within : result_count ends e ≤ w.limit
 
 -- so for each element
-abbrev pub AreResult : {C S : Type 0} → Behaviour C → Wiring → (S → C) → List ℕ → List S → Type 0
+abbrev pub AreResult : {C S : Type 0} → Behaviour C → Wiring → (S → C → Type 0) → List ℕ → List S → Type 0
 AreResult b w value words slots = (order : Level) (ends : Ends b order) → IsOrderOf (shape_of w.plan) order → (e : ℕ)
     → e < w.plan.elements → IsResult b w value words slots ends e

@@ -50,11 +50,11 @@ IsRunValue b p u run c = (order : Level) (ends : Ends b order) → IsOrderOf (sh
     → run_value b (trace ends) u run ≡ c
 
 -- A slot of u is taken: its value is what e's run reads at a place, and no earlier run's than the pass has seen of u.
-abbrev pub InputTaken : {C S : Type 0} → Behaviour C → Wiring → (S → C) → (e run place u slot : ℕ) → Me S View → ℕ
-    → Me S View → Type 0
+abbrev pub InputTaken : {C S : Type 0} → Behaviour C → Wiring → (S → C → Type 0) → (e run place u slot : ℕ)
+    → Me S View → ℕ → Me S View → Type 0
 InputTaken {C} {S} b w value e run place u slot me found new =
     (x : S) × (seen : ℕ) × (new ≡ (read_view slot u seen me.0, (slot, x) ∷ me.1)) × (seen_run u me.0.notes ≤ seen)
-    × IsRunValue b w.plan u seen (value x) × IsReadAt b w.plan e (run + 1) place (value x)
+    × ((c : C) × value x c × IsRunValue b w.plan u seen c × IsReadAt b w.plan e (run + 1) place c)
 
 abbrev pub GivenBack : {S : Type 0} → Me S View → ℕ → Me S View → Type 0
 GivenBack me found new = new ≡ (idle me.0, [])

@@ -1,6 +1,7 @@
 -- How the views change.
 use Rattle.std.specs.Prelude.{◌≡◌, ℕ, ◌+◌, ◌*◌, ◌/◌, ◌%◌, ◌<◌, ◌==◌, ◌||◌, not, List, [], ◌∷◌, map, Bool, true, false}
 use Rattle.pk_iterate.specs.Behaviour.{Behaviour, decided_cell, is_again}
+pub use Rattle.pk_lift.specs.Further.{AllRight}
 use Rattle.pk_words.specs.declared.view.View.{View}
 use Rattle.pk_words.specs.Tokens.{times, number_of, drop_one}
 
@@ -152,8 +153,3 @@ IsGiven b false again e inputs c = (b.apply e inputs ≡ c) × (again ≡ false)
 
 abbrev pub slots_in : {S : Type 0} → List (ℕ × S) → List ℕ
 slots_in xs = map (λ x. x.0) xs
-
--- each carried value is right for its slot
-abbrev pub AllRight : {S : Type 0} → (ℕ → S → Type 0) → List (ℕ × S) → Type 0
-AllRight right [] = Unit {0}
-AllRight right (x ∷ xs) = right x.0 x.1 × AllRight right xs

@@ -1,20 +1,23 @@
 // The rule of a board's table.
 
+use crate::parted::Parted;
+use crate::slot::Slot;
 use crate::subject::Subject;
 use crate::view::View;
 use atomic_table::TableRule;
-use pk_iterate::System;
-use std::sync::Arc;
 
-/// Words, slots and views show a state of the core, which events have led to.
+/// Words, slots and views show a state of the core, which events have led to; and each slot has its cell until its reader's item is
+/// over.
 pub struct Rule;
 
-impl<'a, Y: System> TableRule<Arc<Y::Cell>, View, Subject<'a, Y>> for Rule {
-    ghost use Rattle.pk_words.specs.Board.{IsBoard};
+impl<'a, Y: Parted> TableRule<Slot<Y::Cell, Y::Part>, View, Subject<'a, Y>> for Rule {
+    ghost use Rattle.pk_words.specs.Kinds.{kind_of, IsLeanBoard};
     ghost use Rattle.pk_words.specs.Views.{first_view};
-    ghost use Rattle.std.specs.Arc.{arc_value};
 
-    ghost holds = { λ k s. IsBoard (Y.meaning k.system) k.wiring arc_value s };
+    ghost holds = { λ k s. IsLeanBoard (Y.meaning k.system) k.wiring (record {
+      lets_go = k.lean;
+      part = Y.part_of k.system;
+    }) kind_of s };
 
     ghost first = { λ k. first_view };
 }

@@ -8,13 +8,15 @@ use pk_layout::Layout;
 use pk_plan::Plan;
 use std::marker::Model;
 
-/// A system with its plan, the slots of its elements, and how often each element may run.
+/// A system with its plan, the slots of its elements, how often each element may run, and whether cells are let go of once nothing
+/// reads them any more.
 #[derive(Drop)]
 pub struct Subject<'a, Y: System> {
     system: &'a Y,
     plan: &'a Plan,
     layout: Layout,
     limit: u64,
+    lean: bool,
 }
 
 impl<'a, Y: System> Model for Subject<'a, Y> {
@@ -26,6 +28,7 @@ impl<'a, Y: System> Model for Subject<'a, Y> {
     ghost view = { λ s. record {
       system = s.system.now;
       wiring = record { plan = s.plan.now; limit = s.limit; layout = s.layout };
+      lean = s.lean;
     } };
 
     ghost invariant = { λ s. IsWired (Y.meaning s.system.now) (record {
@@ -36,11 +39,18 @@ impl<'a, Y: System> Model for Subject<'a, Y> {
 }
 
 impl<'a, Y: System> Subject<'a, Y> {
-    pub fn new(system: &'a Y, plan: &'a Plan, layout: Layout, limit: u64) -> Subject<'a, Y>
+    pub fn new(
+        system: &'a Y,
+        plan: &'a Plan,
+        layout: Layout,
+        limit: u64,
+        lean: bool,
+    ) -> Subject<'a, Y>
         requires { IsWired (Y.meaning system.now) (record { plan = plan.now; limit = limit; layout = layout }) }
         ensures { result ≡ record {
           system = system.now;
           wiring = record { plan = plan.now; limit = limit; layout = layout };
+          lean = lean;
         } }
     {
         Subject {
@@ -48,6 +58,7 @@ impl<'a, Y: System> Subject<'a, Y> {
             plan,
             layout,
             limit,
+            lean,
         }
     }
 
@@ -77,6 +88,13 @@ impl<'a, Y: System> Subject<'a, Y> {
         ensures { result.now ≡ self.now.wiring.layout }
     {
         &self.layout
+    }
+
+    /// Whether cells are let go of.
+    pub fn is_lean(&self) -> bool
+        ensures { result ≡ self.now.lean }
+    {
+        self.lean
     }
 
     /// How often an element may run.

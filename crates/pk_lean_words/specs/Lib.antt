@@ -1,0 +1,3 @@
+pub mod Emptied
+pub mod Members
+pub mod Laws
