@@ -12,41 +12,44 @@ use Rattle.pk_iterate.specs.Ending.{trace}
 use Rattle.pk_core.specs.Events.{inner}
 use Rattle.pk_layout.specs.Wirings.{Wiring, IsWired}
 use Rattle.pk_layout.specs.Layouts.{first_of}
+use Rattle.pk_words.specs.declared.slot.Slot.{Slot}
 use Rattle.pk_words.specs.declared.view.View.{View}
 use Rattle.pk_words.specs.Subjects.{SubjectView}
 use Rattle.pk_board.specs.Held.{HoldView, ResettingView}
 use Rattle.pk_words.specs.Tokens.{seen_run}
 use Rattle.pk_words.specs.Views.{HasHold, HasResetting, IsGiven, arm_view, head_view}
 use Rattle.pk_words.specs.Reads.{Counts}
-use Rattle.pk_words.specs.Board.{head_of, members_at, IsBoard}
+use Rattle.pk_words.specs.Board.{head_of, members_at}
+use Rattle.pk_words.specs.Kinds.{kind_of}
 use Rattle.pk_words.specs.Told.{IsIdle, Restarted, Armed, HeadArmed}
 use Rattle.pk_words.proofs.Sends.{has_get}
 use Rattle.pk_words.proofs.Wired.{member_in, member_below}
 use Rattle.pk_words.proofs.Members.{inner_small, some_members}
-use Rattle.pk_words.proofs.Restart_steps.{inner_is, restarts, arms, arms_head}
-use Rattle.pk_board.specs.Boards.{IsKept}
+use Rattle.pk_lean_words.proofs.Lean_steps.{lean_arms, lean_arms_head, lean_restarts}
+use Rattle.pk_words.proofs.Restart_steps.{inner_is}
+use Rattle.pk_board.specs.Boards.{IsKept, lean_of, rule_of}
 use Rattle.pk_board.specs.Calls.{IsLate, IsResetting, IsRunCell, IsArmed}
 use Rattle.pk_board.specs.declared.answers.Armed.TheVariants.{More, Head}
 use Rattle.pk_board.specs.Writing.{IsWriting}
 
-module _ {Y C S : Type 0} (meaning : Y → Behaviour C) (value : S → C) (subject key : SubjectView Y) (table own : TableId) where
-  pub arm_asked : (id x left e amount : ℕ) (me : Me S View) → IsKept (meaning subject.system) subject key table → own ≡ table → IsIdle me → HasResetting me.0 x (left + 1) → 0 < left → e < subject.wiring.plan.elements
+module _ {Y C P : Type 0} (meaning : Y → Behaviour C) (part : Y → List ℕ → List C → P) (subject key : SubjectView Y) (table own : TableId) where
+  pub arm_asked : (id x left e amount : ℕ) (me : Me (Slot C P) View) → IsKept (meaning subject.system) subject key table → own ≡ table → IsIdle me → HasResetting me.0 x (left + 1) → 0 < left → e < subject.wiring.plan.elements
       → e ≡ get_or (members_at subject.wiring.plan x) left 0 → amount + inner (shape_of subject.wiring.plan) x e ≡ 262145
-      → (own ≡ table) × (e + 2 < table.words) × Allows (IsBoard (meaning key.system) key.wiring value) table.slots id me (e + 2) (λ n. (n + (2 ^ 64 - amount)) % 2 ^ 64) (Armed x left e me)
+      → (own ≡ table) × (e + 2 < table.words) × Allows (rule_of meaning part key) table.slots id me (e + 2) (λ n. (n + (2 ^ 64 - amount)) % 2 ^ 64) (Armed x left e me)
   arm_asked id x left e amount me kept of no_slot reset some_left below e_is amount_is = (
     of,
     omega (arith, kept.words, below),
-    subst (λ k. Allows (IsBoard (meaning k.system) k.wiring value) table.slots id me (e + 2) (λ n. (n + (2 ^ 64 - amount)) % 2 ^ 64) (Armed x left e me)) (sym kept.about)
-        (arms (meaning subject.system) subject.wiring value table.slots id x left e amount me no_slot reset some_left e_is amount_is),
+    subst (λ k. Allows (rule_of meaning part k) table.slots id me (e + 2) (λ n. (n + (2 ^ 64 - amount)) % 2 ^ 64) (Armed x left e me)) (sym kept.about)
+        (lean_arms (meaning subject.system) subject.wiring (lean_of part subject) kind_of table.slots id x left e amount me no_slot reset some_left e_is amount_is),
   )
 
-  pub head_asked : (id x e : ℕ) (me : Me S View) → IsKept (meaning subject.system) subject key table → own ≡ table → IsIdle me → HasResetting me.0 x 1 → e < subject.wiring.plan.elements → e ≡ head_of subject.wiring.plan x
-      → (own ≡ table) × (e + 2 < table.words) × Allows (IsBoard (meaning key.system) key.wiring value) table.slots id me (e + 2) (λ n. (n + (2 ^ 64 - 262145)) % 2 ^ 64) (HeadArmed (meaning key.system) key.wiring x e me)
+  pub head_asked : (id x e : ℕ) (me : Me (Slot C P) View) → IsKept (meaning subject.system) subject key table → own ≡ table → IsIdle me → HasResetting me.0 x 1 → e < subject.wiring.plan.elements → e ≡ head_of subject.wiring.plan x
+      → (own ≡ table) × (e + 2 < table.words) × Allows (rule_of meaning part key) table.slots id me (e + 2) (λ n. (n + (2 ^ 64 - 262145)) % 2 ^ 64) (HeadArmed (meaning key.system) key.wiring x e me)
   head_asked id x e me kept of no_slot reset below e_is = (
     of,
     omega (arith, kept.words, below),
-    subst (λ k. Allows (IsBoard (meaning k.system) k.wiring value) table.slots id me (e + 2) (λ n. (n + (2 ^ 64 - 262145)) % 2 ^ 64) (HeadArmed (meaning k.system) k.wiring x e me)) (sym kept.about)
-        (arms_head (meaning subject.system) subject.wiring value table.slots id x e me no_slot reset e_is),
+    subst (λ k. Allows (rule_of meaning part k) table.slots id me (e + 2) (λ n. (n + (2 ^ 64 - 262145)) % 2 ^ 64) (HeadArmed (meaning k.system) k.wiring x e me)) (sym kept.about)
+        (lean_arms_head (meaning subject.system) subject.wiring (lean_of part subject) kind_of table.slots id x e me no_slot reset e_is),
   )
 
 -- a run that goes through a component again is an exit's
@@ -142,19 +145,19 @@ arm_amount n i same small = omega (arith, same, small)
 pub same_word : (word : ℕ) → word % 1048576 ≡ 262145 → word ≡ word / 1048576 * 1048576 + 262145
 same_word word is = omega (arith, is)
 
-module _ {Y C S : Type 0} (meaning : Y → Behaviour C) (value : S → C) (subject key : SubjectView Y) (table own : TableId) where
-  pub restart_asked : (id x run word : ℕ) (c : C) (old : View) (me : Me S View) → IsKept (meaning subject.system) subject key table → own ≡ table → x < subject.wiring.plan.elements → HasHold me.0 x run → run < subject.wiring.limit
-      → IsWriting value subject.wiring x c (first_of subject.wiring.layout x) old me → IsRunCell (meaning subject.system) subject.wiring.plan (record { element = x; run = run }) true c
+module _ {Y C P : Type 0} (meaning : Y → Behaviour C) (part : Y → List ℕ → List C → P) (subject key : SubjectView Y) (table own : TableId) where
+  pub restart_asked : (id x run word : ℕ) (c : C) (old : View) (me : Me (Slot C P) View) → IsKept (meaning subject.system) subject key table → own ≡ table → x < subject.wiring.plan.elements → HasHold me.0 x run → run < subject.wiring.limit
+      → IsWriting subject.wiring x c (first_of subject.wiring.layout x) old me → IsRunCell (meaning subject.system) subject.wiring.plan (record { element = x; run = run }) true c
       → word ≡ (run + 1) * 1048576 + inner (shape_of subject.wiring.plan) x x
-      → (own ≡ table) × (x + 2 < table.words) × Allows (IsBoard (meaning key.system) key.wiring value) table.slots id me (x + 2) (λ _. word) (λ _. Restarted key.wiring.plan x me word)
+      → (own ≡ table) × (x + 2 < table.words) × Allows (rule_of meaning part key) table.slots id me (x + 2) (λ _. word) (λ _. Restarted key.wiring.plan x me word)
   restart_asked id x run word c old me kept of below hold room written cell word_is =
       let exit = exit_again (meaning subject.system) subject key table (record { element = x; run = run }) c kept cell in
       let given = subst (λ (t : Bool). IsGiven (meaning subject.system) t true x (values_read (meaning subject.system) (trace kept.ends.1) x (run + 1)) c) exit (cell kept.ends.0 kept.ends.1 kept.ends.2) in (
         of,
         omega (arith, kept.words, below),
-        subst (λ k. Allows (IsBoard (meaning k.system) k.wiring value) table.slots id me (x + 2) (λ _. word) (λ _. Restarted k.wiring.plan x me word)) (sym kept.about)
-            (subst (λ (n : ℕ). Allows (IsBoard (meaning subject.system) subject.wiring value) table.slots id me (x + 2) (λ _. n) (λ _. Restarted subject.wiring.plan x me n)) (sym word_is)
-            (restarts (meaning subject.system) subject.wiring value table.slots id x run c me kept.slots below exit hold room written.out written.right
+        subst (λ k. Allows (rule_of meaning part k) table.slots id me (x + 2) (λ _. word) (λ _. Restarted k.wiring.plan x me word)) (sym kept.about)
+            (subst (λ (n : ℕ). Allows (rule_of meaning part subject) table.slots id me (x + 2) (λ _. n) (λ _. Restarted subject.wiring.plan x me n)) (sym word_is)
+            (lean_restarts (meaning subject.system) subject.wiring (lean_of part subject) kind_of table.slots id x run c me kept.slots below exit hold room written.out written.right
             (λ k in_slots own. let r = kept.wired.laid_out.no_more x k below in_slots own in written.every k r.0 r.1)
             kept.ends.0 kept.ends.1 kept.ends.2 given)),
       )

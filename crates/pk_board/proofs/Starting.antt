@@ -1,5 +1,5 @@
 -- How a board begins, and lists that grow at their end.
-use Rattle.std.proofs.Common.{◌≡◌, ℕ, zero, suc, ◌+◌, ◌<◌, ◌≤◌, List, [], ◌∷◌, ◌++◌, length, get_or, refl, sym, ap, subst, ◌∙◌, ◌⊎◌, inl, inr, arith, length-append, All}
+use Rattle.std.proofs.Common.{◌≡◌, ℕ, zero, suc, ◌+◌, ◌<◌, ◌≤◌, List, [], ◌∷◌, ◌++◌, length, get_or, true, refl, sym, ap, subst, ◌∙◌, ◌⊎◌, inl, inr, arith, length-append, All}
 use Rattle.std.proofs.lemmas.Bool.{cases_lt}
 use Rattle.std.proofs.lemmas.List.{get_or_append_left, get_or-append-add}
 use Rattle.std.proofs.lemmas.List.Elements.{All-push}
@@ -16,6 +16,7 @@ use Rattle.pk_words.specs.Subjects.{SubjectView}
 use Rattle.pk_words.specs.Reads.{HasEnd}
 use Rattle.pk_board.specs.Boards.{IsWhole}
 use Rattle.pk_board.specs.Earliest.{AreEarliest}
+use Rattle.pk_board.specs.Lean.{LeanView, HasItems}
 use Rattle.pk_board.specs.Results.{ResultsView}
 
 pub elem_last : {A : Type 0} (xs : List A) (k : ℕ) (y x : A) → get_elem? (xs ++ y ∷ []) k ≡ some x → (get_elem? xs k ≡ some x) ⊎ ((k ≡ length xs) × (y ≡ x))
@@ -60,12 +61,14 @@ words_more word n m words words' h is next = subst (AreWords word (n + 1)) (sym 
 pub wired_from : {C : Type 0} (b : Behaviour C) (p : PlanView) (limit n : ℕ) (l : LayoutView) → Axioms p → FitsPlan b p → p.elements ≤ 131073 → limit ≤ 549755813888 → n ≡ p.elements → IsLaidOut b n l → IsWired b (record { plan = p; limit = limit; layout = l })
 wired_from b p limit n l axioms fits small most same laid = record { axioms = axioms; fits = fits; few = omega (arith, small); limited = omega (arith, most); laid_out = subst (λ (k : ℕ). IsLaidOut b k l) same laid }
 
-pub whole_from : {Y C : Type 0} (meaning : Y → Behaviour C) (subject made key : SubjectView Y) (table : TableId) (places : List ℕ) (results : ResultsView C) (n : ℕ) → made ≡ subject → key ≡ made → table.words ≡ subject.wiring.plan.elements + 2 → table.slots ≡ slots_of subject.wiring.layout
-    → IsWired (meaning subject.system) subject.wiring → HasEnd (meaning subject.system) subject.wiring.plan → AreEarliest subject.wiring.plan places → results ≡ record { cells = []; runs = []; room = n } → n ≡ subject.wiring.plan.elements → IsWhole (meaning made.system) made key table places results
-whole_from {Y} meaning subject made key table places results n same about words slots wired ends earliest room all =
-    subst (λ (s : SubjectView Y). IsWhole (meaning s.system) s key table places results) (sym same)
+pub whole_from : {Y C P : Type 0} (meaning : Y → Behaviour C) (subject made key : SubjectView Y) (table : TableId) (places : List ℕ) (results : ResultsView C) (lean : LeanView P) (n : ℕ) → made ≡ subject → key ≡ made → table.words ≡ subject.wiring.plan.elements + 2 → table.slots ≡ slots_of subject.wiring.layout
+    → IsWired (meaning subject.system) subject.wiring → HasEnd (meaning subject.system) subject.wiring.plan → AreEarliest subject.wiring.plan places → results ≡ record { cells = []; runs = []; room = n } → n ≡ subject.wiring.plan.elements → (subject.lean ≡ true → HasItems subject.wiring.plan subject.wiring.layout lean)
+    → IsWhole (meaning made.system) made key table places results lean
+whole_from {Y} meaning subject made key table places results lean n same about words slots wired ends earliest room all items =
+    subst (λ (s : SubjectView Y). IsWhole (meaning s.system) s key table places results lean) (sym same)
     (record {
       kept = record { about = about ∙ same; words = words; slots = slots; wired = wired; ends = ends };
       earliest = earliest;
       room = room ∙ (λ k. record { cells = []; runs = []; room = all k });
+      items = items;
     })

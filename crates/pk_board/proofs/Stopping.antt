@@ -1,18 +1,21 @@
 -- What stopping a board asks of the table and tells.
-use Rattle.std.proofs.Common.{◌≡◌, ◌≢◌, ℕ, zero, suc, ◌+◌, ◌^◌, ◌-◌, ◌<◌, refl, sym, ap, subst, ◌∙◌, arith, Some}
+use Rattle.std.proofs.Common.{◌≡◌, ◌≢◌, ℕ, zero, suc, ◌+◌, ◌^◌, ◌-◌, ◌<◌, List, refl, sym, ap, subst, ◌∙◌, arith, Some}
 use Rattle.atomic_table.specs.Table.{Me, Allows}
 use Rattle.atomic_table.specs.Seated.{TableId}
 use Rattle.pk_iterate.specs.Behaviour.{Behaviour}
 use Rattle.pk_layout.specs.Wirings.{Wiring}
+use Rattle.pk_words.specs.declared.slot.Slot.{Slot}
 use Rattle.pk_words.specs.declared.view.View.{View}
 use Rattle.pk_words.specs.declared.why.Why.{Why}
 use Rattle.pk_words.specs.declared.why.Why.TheVariants.{Memory, RunLimit}
 use Rattle.pk_words.specs.Subjects.{SubjectView}
 use Rattle.pk_words.specs.Views.{stop_view}
-use Rattle.pk_words.specs.Board.{why_of, NamesLimit, IsCause, IsBoard}
+use Rattle.pk_words.specs.Board.{why_of, NamesLimit, IsCause}
+use Rattle.pk_words.specs.Kinds.{kind_of}
 use Rattle.pk_words.specs.Told.{IsIdle, Stopping, StopFound}
-use Rattle.pk_words.proofs.Stops.{stops, stop_loads, word_fits}
-use Rattle.pk_board.specs.Boards.{IsKept}
+use Rattle.pk_lean_words.proofs.Lean_steps.{lean_stops, lean_stop_loads}
+use Rattle.pk_words.proofs.Stops.{word_fits}
+use Rattle.pk_board.specs.Boards.{IsKept, lean_of, rule_of}
 use Rattle.pk_board.specs.Stops.{IsStop}
 
 pub names_limit : {C : Type 0} (b : Behaviour C) (w : Wiring) (why : Why) → IsCause b w why → NamesLimit w.limit why
@@ -26,24 +29,24 @@ some_word limit (suc n) why is q = absurd (omega (arith, q))
 some_same : {A : Type 0} (x y : A) → Some x ≡ Some y → x ≡ y
 some_same x y h = cc
 
-module _ {Y C S : Type 0} (meaning : Y → Behaviour C) (value : S → C) (subject key : SubjectView Y) (table own : TableId) where
-  pub stop_asked : (id word : ℕ) (why : Why) (me : Me S View) → IsKept (meaning subject.system) subject key table → own ≡ table → IsIdle me → why_of subject.wiring.limit word ≡ Some why → IsCause (meaning subject.system) subject.wiring why
-      → (own ≡ table) × (1 < table.words) × Allows (IsBoard (meaning key.system) key.wiring value) table.slots id me 1 (λ _. word) (λ _. Stopping me word)
+module _ {Y C P : Type 0} (meaning : Y → Behaviour C) (part : Y → List ℕ → List C → P) (subject key : SubjectView Y) (table own : TableId) where
+  pub stop_asked : (id word : ℕ) (why : Why) (me : Me (Slot C P) View) → IsKept (meaning subject.system) subject key table → own ≡ table → IsIdle me → why_of subject.wiring.limit word ≡ Some why → IsCause (meaning subject.system) subject.wiring why
+      → (own ≡ table) × (1 < table.words) × Allows (rule_of meaning part key) table.slots id me 1 (λ _. word) (λ _. Stopping me word)
   stop_asked id word why me kept of no_slot is cause = (
     of,
     omega (arith, kept.words, kept.wired.axioms.counted),
-    subst (λ k. Allows (IsBoard (meaning k.system) k.wiring value) table.slots id me 1 (λ _. word) (λ _. Stopping me word)) (sym kept.about)
-        (stops (meaning subject.system) subject.wiring value table.slots id word me no_slot (some_word subject.wiring.limit word why is)
+    subst (λ k. Allows (rule_of meaning part k) table.slots id me 1 (λ _. word) (λ _. Stopping me word)) (sym kept.about)
+        (lean_stops (meaning subject.system) subject.wiring (lean_of part subject) kind_of table.slots id word me no_slot (some_word subject.wiring.limit word why is)
         (λ other h. subst (IsCause (meaning subject.system) subject.wiring) (some_same why other (sym is ∙ h)) cause)),
   )
 
-  pub stopped_asked : (id : ℕ) (me : Me S View) → IsKept (meaning subject.system) subject key table → own ≡ table → IsIdle me
-      → (own ≡ table) × (1 < table.words) × Allows (IsBoard (meaning key.system) key.wiring value) table.slots id me 1 (λ n. n) (StopFound (meaning key.system) key.wiring me)
+  pub stopped_asked : (id : ℕ) (me : Me (Slot C P) View) → IsKept (meaning subject.system) subject key table → own ≡ table → IsIdle me
+      → (own ≡ table) × (1 < table.words) × Allows (rule_of meaning part key) table.slots id me 1 (λ n. n) (StopFound (meaning key.system) key.wiring me)
   stopped_asked id me kept of no_slot = (
     of,
     omega (arith, kept.words, kept.wired.axioms.counted),
-    subst (λ k. Allows (IsBoard (meaning k.system) k.wiring value) table.slots id me 1 (λ n. n) (StopFound (meaning k.system) k.wiring me)) (sym kept.about)
-        (stop_loads (meaning subject.system) subject.wiring value table.slots id me no_slot),
+    subst (λ k. Allows (rule_of meaning part k) table.slots id me 1 (λ n. n) (StopFound (meaning k.system) k.wiring me)) (sym kept.about)
+        (lean_stop_loads (meaning subject.system) subject.wiring (lean_of part subject) kind_of table.slots id me no_slot),
   )
 
 -- what a stop leaves

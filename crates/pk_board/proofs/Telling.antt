@@ -11,7 +11,7 @@ use Rattle.pk_words.specs.Tokens.{seen_run}
 use Rattle.pk_words.specs.Views.{note_view, claim_view, end_view}
 use Rattle.pk_words.specs.Told.{IsIdle, Noted, Claimed, Ended}
 use Rattle.pk_words.specs.Reads.{Counts}
-use Rattle.pk_board.specs.Calls.{IsClaimed, IsSeen, IsEnd, IsNoEnd}
+use Rattle.pk_board.specs.Calls.{IsFound, IsClaimed, IsSeen, IsEnd, IsNoEnd}
 
 pub idle_at : {S : Type 0} (v : View) (new : Me S View) → new ≡ (v, []) → v.out ≡ [] → IsIdle new
 idle_at v new e h = (ap (λ (m : Me _ View). m.1) e, ap (λ (m : Me _ View). m.0.out) e ∙ h)
@@ -96,3 +96,8 @@ end_idle last word me new ended = elim (eqb_tells (word % 1048576) 262145) [
   | inl same ↦ idle_at (end_view last word me.0) new (when_eq (word % 1048576) 262145 (new ≡ (end_view last word me.0, [])) (new ≡ (note_view last word me.0, [])) same.1 ended.0) refl
   | inr other ↦ idle_at (note_view last word me.0) new (when_ne (word % 1048576) 262145 (new ≡ (end_view last word me.0, [])) (new ≡ (note_view last word me.0, [])) other.1 ended.0) refl
 ]
+
+pub is_found : {S : Type 0} (e u word : ℕ) (me new : Me S View) (old : View) → Noted (e + 2 - 2) me word new → me.0 ≡ old → e ≡ u → IsFound u old new.0
+is_found {S} e u word me new old told is same =
+    let n = noted e word me new told in
+    subst (λ (j : ℕ). IsFound j old new.0) same (subst (λ (v : View). IsFound e v new.0) is (record { word = word; late = n.1; view = ap (λ (m : Me S View). m.0) n.0 }))

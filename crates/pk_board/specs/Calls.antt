@@ -1,5 +1,5 @@
 -- What the calls answer, by the words that they find and the views before and after.
-use Rattle.std.specs.Prelude.{◌≡◌, ◌≢◌, ℕ, ◌+◌, ◌-◌, ◌*◌, ◌/◌, ◌%◌, ◌<◌, ◌≤◌, ◌⊎◌, length, map, slice_get, slice_index, Some, true, Bool}
+use Rattle.std.specs.Prelude.{◌≡◌, ◌≢◌, ℕ, ◌+◌, ◌-◌, ◌*◌, ◌/◌, ◌%◌, ◌<◌, ◌≤◌, ◌⊎◌, length, map, slice_get, slice_index, Some, true, false, Bool}
 use Rattle.std.specs.List.{range_with_len}
 use Rattle.pk_plan.specs.Order.{Level}
 use Rattle.pk_plan.specs.Plans.{PlanView, end_of, successors_of}
@@ -29,6 +29,12 @@ use Rattle.pk_board.specs.declared.answers.Armed.TheVariants.{More, Head}
 -- a word of e has no earlier run than the pass has seen
 abbrev pub IsLate : (e word : ℕ) → View → Type 0
 IsLate e word old = seen_run e old.notes ≤ word / 1048576
+
+-- a word of e was found
+pub record IsFound (e : ℕ) (old new : View) : Type 0 where
+  pub word : ℕ
+  pub late : IsLate e word old
+  pub view : new ≡ note_view e word old
 
 -- The open word of e was found, and taken: the pass has the Hold, whose run number is at most the limit and below the recursion's count.
 pub record IsClaimed {C : Type 0} (b : Behaviour C) (w : Wiring) (e : ℕ) (hold : HoldView)
@@ -97,6 +103,12 @@ pub record IsGlance {C : Type 0} (b : Behaviour C) (e place : ℕ) (old new : Vi
   pub late : seen_run element old.notes ≤ run
   pub view : new ≡ note_view element (run * 1048576) old
 
+-- the same of an element's first slot
+pub record IsLook (element : ℕ) (old new : View) : Type 0 where
+  pub run : ℕ
+  pub late : seen_run element old.notes ≤ run
+  pub view : new ≡ note_view element (run * 1048576) old
+
 -- The cell is what the Hold's run reads there: that of a run which is no earlier than the pass has seen.
 pub record IsInput {C : Type 0} (b : Behaviour C) (w : Wiring) (hold : HoldView) (place : ℕ) (old new : View)
     (cell : C) : Type 0 where
@@ -109,6 +121,15 @@ abbrev pub IsRunCell : {C : Type 0} → Behaviour C → PlanView → HoldView �
 IsRunCell b p hold again c =
     (order : Level) (ends : Ends b order) → IsOrderOf (shape_of p) order
     → IsGiven b (exits p hold.element) again hold.element (values_read b (trace ends) hold.element (hold.run + 1)) c
+
+-- the Hold's next run is the last one of its element
+abbrev pub IsLastRun : {C : Type 0} → Behaviour C → PlanView → HoldView → Type 0
+IsLastRun {C} b p hold = (c : C) × IsRunCell b p hold false c
+
+-- The first slot of a member was looked at. The cell is the member's last one.
+pub record IsPeek {C : Type 0} (b : Behaviour C) (w : Wiring) (member : ℕ) (old new : View) (cell : C) : Type 0 where
+  pub look : IsLook member old new
+  pub last : (order : Level) (ends : Ends b order) → IsOrderOf (shape_of w.plan) order → cell ≡ result_cell ends member
 
 -- one for each slot of the element
 pub record AreCopies {C : Type 0} (w : Wiring) (e : ℕ) (copies : CopiesView C) : Type 0 where

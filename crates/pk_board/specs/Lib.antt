@@ -2,8 +2,11 @@ pub mod Held
 pub mod Copies
 pub mod Earliest
 pub mod Results
+pub mod Lean
 pub mod Boards
 pub mod Calls
 pub mod Stops
 pub mod Writing
+pub mod Emptying
+pub mod Parts
 pub mod Nested

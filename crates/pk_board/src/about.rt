@@ -4,10 +4,9 @@ ghost use Rattle.std.specs.Prelude.{◌≡◌};
 ghost use Rattle.pk_words.specs.Reads.{HasEnd};
 
 use crate::boards::Board;
-use pk_iterate::System;
-use pk_words::Subject;
+use pk_words::{Parted, Subject};
 
-impl<'a, Y: System> Board<'a, Y> {
+impl<'a, Y: Parted> Board<'a, Y> {
     /// The system with its plan, its slots, and how often each element may run.
     pub fn subject(&self) -> &Subject<'a, Y>
         ensures { result.now ≡ self.now.subject }

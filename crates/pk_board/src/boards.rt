@@ -6,28 +6,31 @@ ghost use Rattle.pk_board.specs.Calls.{IsClaimed, IsSeen, IsEnd, IsNoEnd};
 
 use crate::answers::Seen;
 use crate::earliest::Earliest;
+use crate::lean::Lean;
 use crate::passes::Pass;
 use crate::results::Results;
 use crate::tokens::{Finished, Hold};
 use atomic_table::Table;
-use pk_iterate::System;
-use pk_words::{DONE, OPEN, Parts, RUN, Rule, Subject, View, exchange_told, load_told, store_told};
+use pk_words::{
+    DONE, OPEN, Parted, Parts, RUN, Rule, Slot, Subject, View, exchange_told, load_told, store_told,
+};
 use std::alloc::Global;
 use std::marker::{Brand, Model};
-use std::sync::Arc;
 
 /// A word for each element of a plan, and a slot for each cell that an element writes or reads. Any number of passes may call it at once.
 #[derive(Drop)]
-pub struct Board<'a, Y: System> {
+pub struct Board<'a, Y: Parted> {
     pub(crate) subject: Subject<'a, Y>,
-    pub(crate) table: Table<Arc<Y::Cell>, View, Subject<'a, Y>, Rule, Global>,
+    pub(crate) table: Table<Slot<Y::Cell, Y::Part>, View, Subject<'a, Y>, Rule, Global>,
     // Tells how many members of a component constrain a member.
     pub(crate) earliest: Earliest,
     // The room that the end needs.
     pub(crate) results: Results<Y::Cell>,
+    // What a board has that lets go of cells.
+    pub(crate) lean: Lean<Y::Part>,
 }
 
-impl<'a, Y: System> Model for Board<'a, Y> {
+impl<'a, Y: Parted> Model for Board<'a, Y> {
     ghost use Rattle.pk_board.specs.Boards.{BoardView, IsWhole};
 
     ghost Value = { BoardView Y };
@@ -35,12 +38,12 @@ impl<'a, Y: System> Model for Board<'a, Y> {
     ghost view = { λ b. record { subject = b.subject; table = b.table.shared.table_id } };
 
     ghost invariant = { λ b. IsWhole (Y.meaning b.subject.system)
-        b.subject b.table.shared.key b.table.shared.table_id b.earliest b.results };
+        b.subject b.table.shared.key b.table.shared.table_id b.earliest b.results b.lean };
 }
 
-impl<'a, Y: System> Board<'a, Y> {
+impl<'a, Y: Parted> Board<'a, Y> {
     /// A pass for another thread. It has no token, and has seen what this one has.
-    pub fn split(&self, pass: &mut Pass<Y::Cell>) -> Pass<Y::Cell>
+    pub fn split(&self, pass: &mut Pass<Y::Cell, Y::Part>) -> Pass<Y::Cell, Y::Part>
         requires of_board { pass.old.table ≡ self.now.table }
         ensures own { pass.new ≡ record { table = pass.old.table; view = split_view pass.old.view } }
         ensures other { result ≡ record { table = pass.old.table; view = new_view pass.old.view } }
@@ -51,7 +54,7 @@ impl<'a, Y: System> Board<'a, Y> {
     }
 
     /// Opens the element of a Hold, so that any pass may claim it.
-    pub fn offer(&self, pass: &mut Pass<Y::Cell>, hold: Hold)
+    pub fn offer(&self, pass: &mut Pass<Y::Cell, Y::Part>, hold: Hold)
         requires of_board { pass.old.table ≡ self.now.table }
         requires element { hold.element < self.now.subject.wiring.plan.elements }
         requires held { HasHold pass.old.view hold.element hold.run }
@@ -70,7 +73,7 @@ impl<'a, Y: System> Board<'a, Y> {
     }
 
     /// Claims an open element, or tells the word that was found.
-    pub fn claim(&self, pass: &mut Pass<Y::Cell>, e: u32) -> Result<Hold, Seen>
+    pub fn claim(&self, pass: &mut Pass<Y::Cell, Y::Part>, e: u32) -> Result<Hold, Seen>
         requires of_board { pass.old.table ≡ self.now.table }
         requires element { e < self.now.subject.wiring.plan.elements }
         ensures of_board { pass.new.table ≡ pass.old.table }
@@ -98,7 +101,7 @@ impl<'a, Y: System> Board<'a, Y> {
     }
 
     /// Whether the last element is done, or else its word.
-    pub fn finished(&self, pass: &mut Pass<Y::Cell>) -> Result<Finished, Seen>
+    pub fn finished(&self, pass: &mut Pass<Y::Cell, Y::Part>) -> Result<Finished, Seen>
         requires of_board { pass.old.table ≡ self.now.table }
         ensures of_board { pass.new.table ≡ pass.old.table }
         ensures finished { OnOk result (IsEnd self.now.subject.wiring.plan pass.old.view pass.new.view) }

@@ -47,3 +47,12 @@ pub fn copied<C: Drop>(
         further,
     })
 }
+
+impl<C: Drop> Copies<C> {
+    /// The cell.
+    pub(crate) fn cell(&self) -> Result<Arc<C>, AllocError>
+        ensures { IfOk result (λ c. arc_value c ≡ self.now.cell) }
+    {
+        self.first.clone()
+    }
+}

@@ -1,17 +1,16 @@
 // Passes.
 
 use atomic_table::Seat;
-use pk_words::View;
+use pk_words::{Slot, View};
 use std::marker::Model;
-use std::sync::Arc;
 
 /// What a thread calls a board with. It has the Holds and Sendings that calls gave with it.
 #[derive(Drop)]
-pub struct Pass<C> {
-    pub(crate) seat: Seat<Arc<C>, View>,
+pub struct Pass<C: Drop, P: Drop> {
+    pub(crate) seat: Seat<Slot<C, P>, View>,
 }
 
-impl<C> Model for Pass<C> {
+impl<C: Drop, P: Drop> Model for Pass<C, P> {
     ghost use Rattle.pk_board.specs.Boards.{PassView};
     ghost use Rattle.pk_words.specs.Told.{IsIdle};
 

@@ -1,7 +1,6 @@
 // How a component is gone through again.
 
 ghost use Rattle.std.specs.Prelude.{◌≡◌, ℕ, ◌+◌, ◌*◌, ◌<◌, slice_index, length, true};
-ghost use Rattle.std.specs.Arc.{arc_value};
 ghost use Rattle.pk_plan.specs.Shape.{shape_of};
 ghost use Rattle.pk_core.specs.Events.{inner};
 ghost use Rattle.pk_words.specs.Board.{head_of, members_at};
@@ -18,16 +17,15 @@ use crate::copies::Copies;
 use crate::passes::Pass;
 use crate::tokens::{Hold, Resetting};
 use atomic_table::Seat;
-use pk_iterate::System;
-use pk_words::{DONE, RUN, View, arm_head_told, arm_told, store_told};
+use pk_words::{DONE, Parted, RUN, Slot, View, arm_head_told, arm_told, store_told};
 use std::marker::Brand;
 use std::sync::Arc;
 
-impl<'a, Y: System> Board<'a, Y> {
+impl<'a, Y: Parted> Board<'a, Y> {
     // A member that isn't the head waits for the others again.
     fn arm_member(
         &self,
-        seat: &mut Seat<Arc<Y::Cell>, View>,
+        seat: &mut Seat<Slot<Y::Cell, Y::Part>, View>,
         exit: u32,
         left: usize,
         member: u32,
@@ -55,7 +53,7 @@ impl<'a, Y: System> Board<'a, Y> {
     }
 
     // The head is held again, and its run number is told.
-    fn arm_head(&self, seat: &mut Seat<Arc<Y::Cell>, View>, exit: u32, head: u32) -> u64
+    fn arm_head(&self, seat: &mut Seat<Slot<Y::Cell, Y::Part>, View>, exit: u32, head: u32) -> u64
         requires of_board { seat.old.table_id ≡ self.now.table }
         requires idle { IsIdle seat.old.me }
         requires resets { HasResetting seat.old.me.0 exit 1 }
@@ -77,7 +75,7 @@ impl<'a, Y: System> Board<'a, Y> {
 
     /// Arms a member of a component that is gone through again, the last one first. Once all others are armed there is a Hold of
     /// the head.
-    pub fn arm(&self, pass: &mut Pass<Y::Cell>, resetting: Resetting) -> Armed
+    pub fn arm(&self, pass: &mut Pass<Y::Cell, Y::Part>, resetting: Resetting) -> Armed
         requires of_board { pass.old.table ≡ self.now.table }
         requires resetting { IsResetting self.now.subject.wiring.plan resetting }
         requires resets { HasResetting pass.old.view resetting.exit resetting.left }
@@ -101,13 +99,13 @@ impl<'a, Y: System> Board<'a, Y> {
     }
 
     // The exit waits for the members of its component, whose slots are written.
-    fn restart(&self, seat: &mut Seat<Arc<Y::Cell>, View>, exit: u32, run: u64) -> usize
+    fn restart(&self, seat: &mut Seat<Slot<Y::Cell, Y::Part>, View>, exit: u32, run: u64) -> usize
         requires of_board { seat.old.table_id ≡ self.now.table }
         requires below { exit < self.now.subject.wiring.plan.elements }
         requires held { HasHold seat.old.me.0 exit run }
         requires room { run < self.now.subject.wiring.limit }
         requires written { (c : Y.Cell) × (old : View)
-            × IsWriting arc_value self.now.subject.wiring exit c
+            × IsWriting self.now.subject.wiring exit c
             (first_of self.now.subject.wiring.layout exit) old seat.old.me
             × IsRunCell (Y.meaning self.now.subject.system) self.now.subject.wiring.plan
             (record { element = exit; run = run }) true c }
@@ -131,7 +129,12 @@ impl<'a, Y: System> Board<'a, Y> {
     }
 
     /// Ends a run of an exit whose component is to be gone through again.
-    pub fn again(&self, pass: &mut Pass<Y::Cell>, hold: Hold, copies: Copies<Y::Cell>) -> Resetting
+    pub fn again(
+        &self,
+        pass: &mut Pass<Y::Cell, Y::Part>,
+        hold: Hold,
+        copies: Copies<Y::Cell>,
+    ) -> Resetting
         requires of_board { pass.old.table ≡ self.now.table }
         requires element { hold.element < self.now.subject.wiring.plan.elements }
         requires held { HasHold pass.old.view hold.element hold.run }

@@ -1,14 +1,17 @@
 // How an element is run: its inputs, the copies of its cell, and its end.
 
-ghost use Rattle.std.specs.Prelude.{◌≡◌, ℕ, ◌+◌, ◌*◌, ◌<◌, ◌≤◌, ◌∷◌, [], ◌↔◌, length, map, replicate, IfOk, IfSome, IsNone, OnErr, false};
+ghost use Rattle.std.specs.Prelude.{◌≡◌, ℕ, ◌+◌, ◌*◌, ◌<◌, ◌≤◌, ◌∷◌, [], ◌↔◌, length, map, replicate, IfOk, IfSome, IsNone, OnErr, true, false};
 ghost use Rattle.std.specs.Arc.{arc_value};
-ghost use Rattle.std.specs.declared.sync.Arc.{Arc};
-ghost use Rattle.std.specs.declared.alloc.Global.{Global};
 ghost use Rattle.pk_plan.specs.Plans.{end_of, successors_of};
+ghost use Rattle.pk_plan.specs.Shape.{has};
+ghost use Rattle.pk_items.specs.Items.{EndsItem};
 ghost use Rattle.pk_layout.specs.Layouts.{first_of};
 ghost use Rattle.pk_words.specs.declared.view.View.{View};
+ghost use Rattle.pk_words.specs.declared.slot.Slot.{Slot};
+ghost use Rattle.pk_words.specs.declared.slot.Slot.TheVariants.{Cell};
+ghost use Rattle.pk_words.specs.Kinds.{HasCell, kind_of};
 ghost use Rattle.pk_words.specs.Tokens.{times};
-ghost use Rattle.pk_words.specs.Views.{HasHold, done_view};
+ghost use Rattle.pk_words.specs.Views.{HasHold, done_view, take_view};
 ghost use Rattle.pk_board.specs.Calls.{AreCopies, IsGlance, IsInput, IsRunCell};
 ghost use Rattle.pk_board.specs.Writing.{IsWriting};
 
@@ -17,33 +20,36 @@ use crate::copies::{Copies, copied};
 use crate::passes::Pass;
 use crate::tokens::{Hold, Sending};
 use atomic_table::Seat;
-use pk_iterate::System;
-use pk_words::{DONE, RUN, View, give_told, input_told, store_told, take_told};
+use pk_words::{DONE, Parted, RUN, Slot, View, give_told, input_told, store_told, take_told};
 use std::alloc::{AllocError, Global};
 use std::marker::Brand;
 use std::sync::Arc;
 
-impl<'a, Y: System> Board<'a, Y> {
+impl<'a, Y: Parted> Board<'a, Y> {
     // The cell in the slot that the seat took.
-    fn read_slot(
+    pub(crate) fn read_slot(
         &self,
-        seat: &mut Seat<Arc<Y::Cell>, View>,
+        seat: &mut Seat<Slot<Y::Cell, Y::Part>, View>,
         slot: usize,
     ) -> Result<Arc<Y::Cell>, AllocError>
         requires of_board { seat.old.table_id ≡ self.now.table }
-        requires has { (x : Arc Y.Cell Global) × (seat.old.me.1 ≡ (slot, x) ∷ []) }
+        requires has { (x : Slot Y.Cell Y.Part) × (c : Y.Cell) × (seat.old.me.1 ≡ (slot, x) ∷ [])
+            × (kind_of x ≡ HasCell c) }
         ensures same { (seat.new.table_id ≡ seat.old.table_id) × (seat.new.id ≡ seat.old.id)
             × (seat.new.me ≡ seat.old.me) }
-        ensures value { IfOk result (λ c. (x : Arc Y.Cell Global) → seat.old.me.1 ≡ (slot, x) ∷ []
-            → arc_value c ≡ arc_value x) }
+        ensures value { IfOk result (λ a. (x : Slot Y.Cell Y.Part) (c : Y.Cell) → seat.old.me.1 ≡ (slot, x) ∷ []
+            → kind_of x ≡ HasCell c → arc_value a ≡ c) }
     {
-        Arc::try_clone(seat.slot_mut(&self.table.shared, slot))
+        match seat.slot_mut(&self.table.shared, slot) {
+            Slot::Cell(cell) => cell.clone(),
+            _ => unreachable!(),
+        }
     }
 
     /// The cell that the Hold's run reads at a place.
     pub fn input(
         &self,
-        pass: &mut Pass<Y::Cell>,
+        pass: &mut Pass<Y::Cell, Y::Part>,
         hold: &Hold,
         place: usize,
     ) -> Result<Arc<Y::Cell>, AllocError>
@@ -92,26 +98,30 @@ impl<'a, Y: System> Board<'a, Y> {
     }
 
     // Takes a slot of the element, and writes the cell.
-    fn put(&self, seat: &mut Seat<Arc<Y::Cell>, View>, e: u32, slot: usize, cell: Arc<Y::Cell>)
+    pub(crate) fn put(
+        &self,
+        seat: &mut Seat<Slot<Y::Cell, Y::Part>, View>,
+        e: u32,
+        slot: usize,
+        cell: Arc<Y::Cell>,
+    )
         requires of_board { seat.old.table_id ≡ self.now.table }
         requires element { e < self.now.subject.wiring.plan.elements }
         requires slot { (first_of self.now.subject.wiring.layout e ≤ slot)
             × (slot < first_of self.now.subject.wiring.layout (e + 1)) }
-        requires writing { (v : View) × (0 < times e v.holds)
-            × IsWriting arc_value self.now.subject.wiring e (arc_value cell) (slot + 1) v seat.old.me }
+        requires held { 0 < times e seat.old.me.0.holds }
+        requires at_home { has slot seat.old.me.0.out ≡ false }
         ensures same { (seat.new.table_id ≡ seat.old.table_id) × (seat.new.id ≡ seat.old.id) }
-        ensures writing { (v : View)
-            → IsWriting arc_value self.now.subject.wiring e (arc_value cell) (slot + 1) v seat.old.me
-            → IsWriting arc_value self.now.subject.wiring e (arc_value cell) slot v seat.new.me }
+        ensures put { seat.new.me ≡ (take_view slot seat.old.me.0, (slot, Cell cell) ∷ seat.old.me.1) }
     {
         take_told::<_, _, _, Brand>(&self.table.shared, seat, e as usize + 2, slot);
-        drop(self.table.shared.exchange(seat, slot, cell));
+        drop(self.table.shared.exchange(seat, slot, Slot::Cell(cell)));
     }
 
     // Takes each slot of the element, and writes its copy.
     pub(crate) fn put_all(
         &self,
-        seat: &mut Seat<Arc<Y::Cell>, View>,
+        seat: &mut Seat<Slot<Y::Cell, Y::Part>, View>,
         e: u32,
         first: Arc<Y::Cell>,
         further: Vec<Arc<Y::Cell>>,
@@ -124,7 +134,7 @@ impl<'a, Y: System> Board<'a, Y> {
             ≡ first_of self.now.subject.wiring.layout (e + 1) }
         requires same { map arc_value further.items ≡ replicate (length further.items) (arc_value first) }
         ensures same { (seat.new.table_id ≡ seat.old.table_id) × (seat.new.id ≡ seat.old.id) }
-        ensures written { IsWriting arc_value self.now.subject.wiring e (arc_value first)
+        ensures written { IsWriting self.now.subject.wiring e (arc_value first)
             (first_of self.now.subject.wiring.layout e) seat.old.me.0 seat.new.me }
     {
         let mut cells = further;
@@ -139,7 +149,7 @@ impl<'a, Y: System> Board<'a, Y> {
     /// Ends a run of a point, of END, or of an exit that is stable. There is a Sending exactly where the element isn't END.
     pub fn done(
         &self,
-        pass: &mut Pass<Y::Cell>,
+        pass: &mut Pass<Y::Cell, Y::Part>,
         hold: Hold,
         copies: Copies<Y::Cell>,
     ) -> Option<Sending>
@@ -147,6 +157,7 @@ impl<'a, Y: System> Board<'a, Y> {
         requires element { hold.element < self.now.subject.wiring.plan.elements }
         requires held { HasHold pass.old.view hold.element hold.run }
         requires room { hold.run < self.now.subject.wiring.limit }
+        requires going { self.now.subject.lean ≡ true → EndsItem self.now.subject.wiring.plan hold.element → ⊥ }
         requires copies { AreCopies self.now.subject.wiring hold.element copies }
         requires cell { IsRunCell
             (Y.meaning self.now.subject.system) self.now.subject.wiring.plan hold false copies.cell }

@@ -8,13 +8,12 @@ use crate::answers::{Arrived, Got};
 use crate::boards::Board;
 use crate::passes::Pass;
 use crate::tokens::{Hold, Sending};
-use pk_iterate::System;
-use pk_words::{RUN, decrement_told};
+use pk_words::{Parted, RUN, decrement_told};
 use std::marker::Brand;
 
-impl<'a, Y: System> Board<'a, Y> {
+impl<'a, Y: Parted> Board<'a, Y> {
     /// Tells the next successor, which waits for one element less.
-    pub fn arrive(&self, pass: &mut Pass<Y::Cell>, sending: Sending) -> Arrived
+    pub fn arrive(&self, pass: &mut Pass<Y::Cell, Y::Part>, sending: Sending) -> Arrived
         requires of_board { pass.old.table ≡ self.now.table }
         requires sending { IsSending self.now.subject.wiring.plan sending }
         requires sends { HasSending pass.old.view sending.element sending.sent }

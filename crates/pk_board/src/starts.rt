@@ -1,28 +1,27 @@
 // How a board begins.
 
 ghost use Rattle.std.specs.Prelude.{◌≡◌, ℕ, ◌+◌, ◌^◌, ◌<◌, ◌≤◌, IfOk, length, slice_index};
-ghost use Rattle.std.specs.Arc.{arc_value};
-ghost use Rattle.std.specs.declared.sync.Arc.{Arc};
-ghost use Rattle.std.specs.declared.alloc.Global.{Global};
 ghost use mathlib.Core.Option.{some};
 ghost use lib.ListN.{get_elem?};
 ghost use Rattle.pk_plan.specs.Plans.{predecessors_of};
 ghost use Rattle.pk_iterate.specs.Fits.{FitsPlan};
 ghost use Rattle.pk_core.specs.Events.{start_status};
 ghost use Rattle.pk_layout.specs.Layouts.{IsLaidOut, owner_of, slots_of};
+ghost use Rattle.pk_words.specs.declared.slot.Slot.{Slot};
 ghost use Rattle.pk_words.specs.Board.{low};
+ghost use Rattle.pk_words.specs.Kinds.{HasCell, kind_of};
 ghost use Rattle.pk_words.specs.Reads.{HasEnd};
 ghost use Rattle.pk_words.specs.Views.{first_view};
 
 use crate::boards::Board;
 use crate::earliest::Earliest;
+use crate::lean::Lean;
 use crate::passes::Pass;
 use crate::results::reserved;
 use atomic_table::Table;
-use pk_iterate::System;
 use pk_layout::Layout;
 use pk_plan::Plan;
-use pk_words::{OPEN, Subject};
+use pk_words::{OPEN, Parted, Slot, Subject};
 use std::alloc::{AllocError, Global};
 use std::sync::Arc;
 
@@ -54,35 +53,37 @@ fn start_words(alloc: Global, plan: &Plan) -> Result<Vec<u64>, AllocError>
 }
 
 /// The first cells, once for each slot.
-fn start_slots<Y: System>(
+fn start_slots<Y: Parted>(
     alloc: Global,
     system: &Y,
     elements: u32,
     layout: &Layout,
-) -> Result<Vec<Arc<Y::Cell>>, AllocError>
+) -> Result<Vec<Slot<Y::Cell, Y::Part>>, AllocError>
     requires { IsLaidOut (Y.meaning system.now) elements layout.now }
     ensures long { IfOk result (λ v. length v.items ≡ slots_of layout.now) }
-    ensures each { IfOk result (λ v. (k : ℕ) (x : Arc Y.Cell Global) → get_elem? v.items k ≡ some x
-        → arc_value x ≡ (Y.meaning system.now).first (owner_of layout.now k)) }
+    ensures each { IfOk result (λ v. (k : ℕ) (x : Slot Y.Cell Y.Part) → get_elem? v.items k ≡ some x
+        → kind_of x ≡ HasCell ((Y.meaning system.now).first (owner_of layout.now k))) }
 {
     let mut slots = Vec::new(alloc);
     for e in 0..elements {
         let cell = Arc::new(alloc, system.first(alloc, e)?)?;
         for slot in layout.first_slot(e)..layout.first_slot(e + 1) {
-            slots.push(cell.clone()?)?;
+            slots.push(Slot::Cell(cell.clone()?))?;
         }
     }
     Ok(slots)
 }
 
-impl<'a, Y: System> Board<'a, Y> {
-    /// A board at the start, and a pass without tokens. No element may be run more than `max_runs` times.
+impl<'a, Y: Parted> Board<'a, Y> {
+    /// A board at the start, and a pass without tokens. No element may be run more than `max_runs` times. A lean board lets go of
+    /// cells once nothing reads them any more.
     pub fn start(
         alloc: Global,
         system: &'a Y,
         plan: &'a Plan,
         max_runs: u64,
-    ) -> Result<(Board<'a, Y>, Pass<Y::Cell>), AllocError>
+        lean: bool,
+    ) -> Result<(Board<'a, Y>, Pass<Y::Cell, Y::Part>), AllocError>
         requires fits { FitsPlan (Y.meaning system.now) plan.now }
         requires ends { HasEnd (Y.meaning system.now) plan.now }
         requires few { plan.now.elements ≤ 131073 }
@@ -90,6 +91,7 @@ impl<'a, Y: System> Board<'a, Y> {
         ensures system { IfOk result (λ r. r.0.subject.system ≡ system.now) }
         ensures plan { IfOk result (λ r. r.0.subject.wiring.plan ≡ plan.now) }
         ensures limit { IfOk result (λ r. r.0.subject.wiring.limit ≡ max_runs) }
+        ensures lean { IfOk result (λ r. r.0.subject.lean ≡ lean) }
         ensures pass { IfOk result (λ r. r.1 ≡ record { table = r.0.table; view = first_view }) }
     {
         plan.axioms();
@@ -98,7 +100,8 @@ impl<'a, Y: System> Board<'a, Y> {
         let earliest = Earliest::of(alloc, plan)?;
         let layout = Layout::new(alloc, system, plan.elements())?;
         let slots = start_slots(alloc, system, plan.elements(), &layout)?;
-        let subject = Subject::new(system, plan, layout, max_runs);
+        let leaning = Lean::of(alloc, system, plan, &layout, lean)?;
+        let subject = Subject::new(system, plan, layout, max_runs, lean);
         match Table::new(alloc, &words, slots, &subject) {
             Ok((table, seat)) => {
                 let board = Board {
@@ -106,6 +109,7 @@ impl<'a, Y: System> Board<'a, Y> {
                     table,
                     earliest,
                     results,
+                    lean: leaning,
                 };
                 Ok((board, Pass { seat }))
             }

@@ -7,13 +7,12 @@ ghost use Rattle.pk_board.specs.Stops.{IsStop, IsStopped, IsGoing};
 use crate::boards::Board;
 use crate::passes::Pass;
 use crate::tokens::Stopped;
-use pk_iterate::System;
-use pk_words::{Why, load_told, stop_word, store_told, why_in};
+use pk_words::{Parted, Why, load_told, stop_word, store_told, why_in};
 use std::marker::Brand;
 
-impl<'a, Y: System> Board<'a, Y> {
+impl<'a, Y: Parted> Board<'a, Y> {
     /// Stops the board, and says why: memory was refused, or the recursion runs an element once more than the limit lets it.
-    pub fn stop(&self, pass: &mut Pass<Y::Cell>, why: Why)
+    pub fn stop(&self, pass: &mut Pass<Y::Cell, Y::Part>, why: Why)
         requires of_board { pass.old.table ≡ self.now.table }
         requires cause { IsCause (Y.meaning self.now.subject.system) self.now.subject.wiring why }
         ensures of_board { pass.new.table ≡ pass.old.table }
@@ -24,7 +23,7 @@ impl<'a, Y: System> Board<'a, Y> {
     }
 
     /// Why the board is stopped, if it is. Once a pass has stopped it or found it stopped, it is.
-    pub fn stopped(&self, pass: &mut Pass<Y::Cell>) -> Option<(Why, Stopped)>
+    pub fn stopped(&self, pass: &mut Pass<Y::Cell, Y::Part>) -> Option<(Why, Stopped)>
         requires of_board { pass.old.table ≡ self.now.table }
         ensures of_board { pass.new.table ≡ pass.old.table }
         ensures stopped { IfSome result (λ r. IsStopped
@@ -48,7 +47,9 @@ impl<'a, Y: System> Board<'a, Y> {
             table,
             earliest,
             results,
+            lean,
         } = self;
+        drop(lean);
         drop(results);
         drop(earliest);
         drop(table);

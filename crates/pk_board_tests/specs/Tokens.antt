@@ -1,5 +1,5 @@
 -- What a pass has between two calls, and what a run has read.
-use Rattle.std.specs.Prelude.{◌≡◌, ℕ, ◌≤◌, List, [], ◌∷◌}
+use Rattle.std.specs.Prelude.{◌≡◌, ℕ, ◌≤◌, List, [], ◌∷◌, false}
 use Rattle.pk_plan.specs.Plans.{PlanView}
 use Rattle.pk_words.specs.declared.view.View.{View}
 use Rattle.pk_board.specs.Held.{HoldView, SendingView, ResettingView}
@@ -30,8 +30,9 @@ abbrev pub HasGot : ℕ → View → Got → Type 0
 HasGot limit v (Ready hold) = HasTokens v ((hold.element, hold.run) ∷ []) v.sends [] × (hold.run ≤ limit)
 HasGot limit v (Waiting left) = HasTokens v [] v.sends []
 
--- the subject is this system with this plan, and no element may run more than 1000 times
+-- the subject is this system with this plan, no element may run more than 1000 times, and cells are kept
 pub record IsAbout {Y : Type 0} (s : SubjectView Y) (y : Y) (p : PlanView) : Type 0 where
   pub system : s.system ≡ y
   pub plan : s.wiring.plan ≡ p
   pub limit : s.wiring.limit ≡ 1000
+  pub whole : s.lean ≡ false

@@ -1,19 +1,20 @@
 // How a board that was gone through ends.
 
-ghost use Rattle.std.specs.Prelude.{◌≡◌, true};
+ghost use Rattle.std.specs.Prelude.{◌≡◌, true, false};
 ghost use Rattle.pk_plan.specs.Digraphs.{lists_of};
 ghost use Rattle.pk_words.specs.Reads.{HasEnd};
 ghost use Rattle.pk_board_tests.specs.Summing.{summing};
 ghost use Rattle.pk_board_tests.specs.Prepared.{HasEach};
 
-use crate::summing::Summing;
+use crate::summing::{Summing, Values};
 use pk_board::{Board, Finished, Pass};
 use pk_iterate::Cells;
 use std::process::Abort;
 
-fn closed<'a>(board: Board<'a, Summing>, pass: Pass<u64>, finished: Finished) -> Cells<u64>
+fn closed<'a>(board: Board<'a, Summing>, pass: Pass<u64, Values>, finished: Finished) -> Cells<u64>
     requires of_board { pass.table ≡ board.table }
     requires ended { pass.view.ended ≡ true }
+    requires whole { board.subject.lean ≡ false }
     requires ends { HasEnd (summing (lists_of board.subject.system.rows.items)) board.subject.wiring.plan }
     ensures { HasEach board.entry.subject.wiring.plan.elements result }
 {
@@ -37,13 +38,14 @@ pub fn same(one: &Cells<u64>, other: &Cells<u64>, elements: u32) -> bool
 pub fn leaves<'a>(
     rt: &impl Abort,
     board: Board<'a, Summing>,
-    pass: Pass<u64>,
+    pass: Pass<u64, Values>,
     finished: Finished,
     cells: &Cells<u64>,
     elements: u32,
 )
     requires of_board { pass.table ≡ board.table }
     requires ended { pass.view.ended ≡ true }
+    requires whole { board.subject.lean ≡ false }
     requires ends { HasEnd (summing (lists_of board.subject.system.rows.items)) board.subject.wiring.plan }
     requires elements { board.subject.wiring.plan.elements ≡ elements }
     requires each { HasEach elements cells.now }

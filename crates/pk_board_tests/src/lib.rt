@@ -4,6 +4,8 @@
 #[cfg(test)]
 mod ends;
 #[cfg(test)]
+mod lean;
+#[cfg(test)]
 mod plans;
 #[cfg(test)]
 mod refusals;

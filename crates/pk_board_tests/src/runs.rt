@@ -8,7 +8,7 @@ ghost use Rattle.pk_board.specs.Calls.{AreCopies, IsRunCell, IsSending, IsResett
 ghost use Rattle.pk_board_tests.specs.Summing.{summing};
 ghost use Rattle.pk_board_tests.specs.Tokens.{HasTokens, HasNone, HasOnlyHold, HasOnlySending, HasOnlyResetting, HasGot, IsAbout};
 
-use crate::summing::Summing;
+use crate::summing::{Summing, Values};
 use pk_board::{Armed, Arrived, Board, Copies, Got, Hold, Pass, Resetting, Sending};
 use pk_iterate::{Decision, System};
 use pk_plan::Plan;
@@ -51,7 +51,7 @@ fn offered<'a>(
     rt: &impl Abort,
     board: &Board<'a, Summing>,
     plan: &Plan,
-    pass: &mut Pass<u64>,
+    pass: &mut Pass<u64, Values>,
     got: Got,
 ) -> Answer
     requires of_board { pass.old.table ≡ board.now.table }
@@ -76,7 +76,7 @@ fn send_all<'a>(
     rt: &impl Abort,
     board: &Board<'a, Summing>,
     plan: &Plan,
-    pass: &mut Pass<u64>,
+    pass: &mut Pass<u64, Values>,
     sending: Sending,
     answers: &mut Vec<Answer>,
 ) -> Result<(), AllocError>
@@ -105,7 +105,7 @@ fn finish<'a>(
     alloc: Global,
     board: &Board<'a, Summing>,
     plan: &Plan,
-    pass: &mut Pass<u64>,
+    pass: &mut Pass<u64, Values>,
     hold: Hold,
     copies: Copies<u64>,
 ) -> Result<Vec<Answer>, AllocError>
@@ -114,6 +114,7 @@ fn finish<'a>(
     requires element { hold.element < board.now.subject.wiring.plan.elements }
     requires held { HasOnlyHold pass.old.view hold }
     requires room { hold.run < board.now.subject.wiring.limit }
+    requires whole { board.now.subject.lean ≡ false }
     requires copies { AreCopies board.now.subject.wiring hold.element copies }
     requires cell { IsRunCell
         (summing (lists_of board.now.subject.system.rows.items)) board.now.subject.wiring.plan hold false copies.cell }
@@ -133,7 +134,11 @@ fn finish<'a>(
 }
 
 // Arms the members that are left.
-fn arm_all<'a>(board: &Board<'a, Summing>, pass: &mut Pass<u64>, resetting: Resetting) -> Hold
+fn arm_all<'a>(
+    board: &Board<'a, Summing>,
+    pass: &mut Pass<u64, Values>,
+    resetting: Resetting,
+) -> Hold
     requires of_board { pass.old.table ≡ board.now.table }
     requires resetting { IsResetting board.now.subject.wiring.plan resetting }
     requires resets { HasOnlyResetting pass.old.view resetting }
@@ -153,7 +158,7 @@ fn go_back<'a>(
     alloc: Global,
     board: &Board<'a, Summing>,
     plan: &Plan,
-    pass: &mut Pass<u64>,
+    pass: &mut Pass<u64, Values>,
     hold: Hold,
     copies: Copies<u64>,
 ) -> Result<Vec<Answer>, AllocError>
@@ -182,7 +187,7 @@ fn copied<'a>(
     board: &Board<'a, Summing>,
     plan: &Plan,
     system: &Summing,
-    pass: &mut Pass<u64>,
+    pass: &mut Pass<u64, Values>,
     hold: &Hold,
 ) -> Result<(Copies<u64>, bool), AllocError>
     requires of_board { pass.old.table ≡ board.now.table }
@@ -209,7 +214,7 @@ pub fn run_held<'a>(
     board: &Board<'a, Summing>,
     plan: &Plan,
     system: &Summing,
-    pass: &mut Pass<u64>,
+    pass: &mut Pass<u64, Values>,
     hold: Hold,
 ) -> Result<Vec<Answer>, AllocError>
     requires of_board { pass.old.table ≡ board.now.table }
@@ -236,7 +241,7 @@ pub fn run_open<'a>(
     board: &Board<'a, Summing>,
     plan: &Plan,
     system: &Summing,
-    pass: &mut Pass<u64>,
+    pass: &mut Pass<u64, Values>,
     e: u32,
 ) -> Result<Vec<Answer>, AllocError>
     requires of_board { pass.old.table ≡ board.now.table }

@@ -4,7 +4,7 @@ ghost use Rattle.std.specs.Prelude.{◌≡◌};
 ghost use Rattle.pk_board_tests.specs.Tokens.{HasTokens, HasNone};
 
 use crate::plans::prepared;
-use crate::summing::Summing;
+use crate::summing::{Summing, Values};
 use crate::walks::{last_word, word};
 use pk_board::{Board, Pass};
 use pk_plan::Plan;
@@ -17,8 +17,8 @@ fn claim_first<'a>(
     rt: &impl Abort,
     board: &Board<'a, Summing>,
     plan: &Plan,
-    pass: &mut Pass<u64>,
-    other: &mut Pass<u64>,
+    pass: &mut Pass<u64, Values>,
+    other: &mut Pass<u64, Values>,
 )
     requires of_board { pass.old.table ≡ board.now.table }
     requires other_of_board { other.old.table ≡ board.now.table }
@@ -41,7 +41,12 @@ fn claim_first<'a>(
 }
 
 // One pass stops the board, and the other sees it.
-fn stop<'a>(rt: &impl Abort, board: Board<'a, Summing>, pass: &mut Pass<u64>, other: &mut Pass<u64>)
+fn stop<'a>(
+    rt: &impl Abort,
+    board: Board<'a, Summing>,
+    pass: &mut Pass<u64, Values>,
+    other: &mut Pass<u64, Values>,
+)
     requires of_board { pass.old.table ≡ board.table }
     requires other_of_board { other.old.table ≡ board.table }
 {
@@ -54,7 +59,7 @@ fn stop<'a>(rt: &impl Abort, board: Board<'a, Summing>, pass: &mut Pass<u64>, ot
 }
 
 // Each pass claims the first element and offers it; the last waits for one; then the board is stopped.
-fn used<'a>(rt: &impl Abort, board: Board<'a, Summing>, plan: &Plan, pass: Pass<u64>)
+fn used<'a>(rt: &impl Abort, board: Board<'a, Summing>, plan: &Plan, pass: Pass<u64, Values>)
     requires of_board { pass.table ≡ board.table }
     requires plan { board.subject.wiring.plan ≡ plan.now }
     requires none { HasNone pass.view }
@@ -70,7 +75,7 @@ fn used<'a>(rt: &impl Abort, board: Board<'a, Summing>, plan: &Plan, pass: Pass<
 #[test]
 fn passes_claim_in_turn_and_see_a_stop(rt: HostRuntime) -> Result<(), AllocError> {
     let made = prepared(&rt, rt.alloc(), 2, &[(0, 1)])?;
-    let (board, pass) = Board::start(rt.alloc(), &made.system, &made.plan, 10)?;
+    let (board, pass) = Board::start(rt.alloc(), &made.system, &made.plan, 10, false)?;
     used(&rt, board, &made.plan, pass);
     Ok(())
 }

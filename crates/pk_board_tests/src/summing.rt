@@ -2,10 +2,13 @@
 
 ghost use Rattle.std.specs.Prelude.{◌≡◌, IfOk, map};
 ghost use Rattle.std.specs.Arc.{arc_value};
+ghost use Rattle.std.specs.List.{zip};
 ghost use Rattle.pk_core.specs.Nested.{total, turn_of};
 
 use pk_iterate::{Decision, System};
+use pk_words::Parted;
 use std::alloc::{AllocError, Global};
+use std::marker::Model;
 use std::sync::Arc;
 
 // One more than the sum of the cells.
@@ -88,5 +91,59 @@ impl System for Summing {
                 }
             }
         }
+    }
+}
+
+// The points of an item with their cells.
+#[derive(Drop)]
+pub struct Values {
+    pub of: Vec<(u32, u64)>,
+}
+
+impl Model for Values {
+    ghost use Rattle.std.specs.Prelude.{ℕ, List};
+
+    ghost Value = { List (ℕ × ℕ) };
+
+    ghost view = { λ v. v.of.items };
+}
+
+// The points, each with its cell.
+pub fn zipped(
+    alloc: Global,
+    points: &[u32],
+    cells: &[Arc<u64>],
+) -> Result<Vec<(u32, u64)>, AllocError>
+    ensures { IfOk result (λ v. v.items ≡ zip points.now (map arc_value cells.now)) }
+{
+    match points {
+        [] => Ok(Vec::new(alloc)),
+        [point, points @ ..] => match cells {
+            [] => Ok(Vec::new(alloc)),
+            [cell, cells @ ..] => {
+                let mut rest = zipped(alloc, points, cells)?;
+                rest.insert(0, (*point, **cell))?;
+                Ok(rest)
+            }
+        },
+    }
+}
+
+impl Parted for Summing {
+    ghost use Rattle.std.specs.List.{zip};
+
+    type Part = Values;
+
+    ghost part_of = { λ s points cells. zip points cells };
+
+    fn part(
+        &self,
+        alloc: Global,
+        points: &[u32],
+        cells: &[Arc<u64>],
+    ) -> Result<Values, AllocError> {
+        Ok(Values {
+            of: zipped(alloc, points, cells)?,
+        })
     }
 }

@@ -8,7 +8,7 @@ ghost use Rattle.pk_board_tests.specs.Prepared.{IsPrepared};
 use crate::ends::leaves;
 use crate::plans::prepared;
 use crate::runs::{Answer, run_held, run_open};
-use crate::summing::Summing;
+use crate::summing::{Summing, Values};
 use Answer::{Again, Ready, Waiting};
 use pk_board::{Board, Pass};
 use pk_iterate::Cells;
@@ -21,7 +21,7 @@ pub fn word<'a>(
     rt: &impl Abort,
     board: &Board<'a, Summing>,
     plan: &Plan,
-    pass: &mut Pass<u64>,
+    pass: &mut Pass<u64, Values>,
     e: u32,
 ) -> u64
     requires of_board { pass.old.table ≡ board.now.table }
@@ -37,7 +37,11 @@ pub fn word<'a>(
 }
 
 // The word of the last element, which isn't done.
-pub fn last_word<'a>(rt: &impl Abort, board: &Board<'a, Summing>, pass: &mut Pass<u64>) -> u64
+pub fn last_word<'a>(
+    rt: &impl Abort,
+    board: &Board<'a, Summing>,
+    pass: &mut Pass<u64, Values>,
+) -> u64
     requires of_board { pass.old.table ≡ board.now.table }
     ensures of_board { pass.new.table ≡ board.now.table }
     ensures tokens { HasTokens pass.new.view pass.old.view.holds pass.old.view.sends pass.old.view.resets }
@@ -55,7 +59,7 @@ fn run_last<'a>(
     board: &Board<'a, Summing>,
     plan: &Plan,
     system: &Summing,
-    pass: &mut Pass<u64>,
+    pass: &mut Pass<u64, Values>,
 ) -> Result<(), AllocError>
     requires of_board { pass.old.table ≡ board.now.table }
     requires about { IsAbout board.now.subject system.now plan.now }
@@ -82,7 +86,7 @@ fn stepped<'a>(
     board: &Board<'a, Summing>,
     plan: &Plan,
     system: &Summing,
-    pass: &mut Pass<u64>,
+    pass: &mut Pass<u64, Values>,
     steps: &[(u32, &[Answer])],
 ) -> Result<(), AllocError>
     requires of_board { pass.old.table ≡ board.now.table }
@@ -103,7 +107,7 @@ fn stepped<'a>(
 fn ended<'a>(
     rt: &impl Abort,
     board: Board<'a, Summing>,
-    pass: Pass<u64>,
+    pass: Pass<u64, Values>,
     plan: &Plan,
     system: &Summing,
     cells: &Cells<u64>,
@@ -129,7 +133,7 @@ fn staged<'a>(
     board: &Board<'a, Summing>,
     plan: &Plan,
     system: &Summing,
-    pass: &mut Pass<u64>,
+    pass: &mut Pass<u64, Values>,
     stages: &[Stage],
 ) -> Result<(), AllocError>
     requires of_board { pass.old.table ≡ board.now.table }
@@ -152,7 +156,7 @@ fn walked<'a>(
     board: &Board<'a, Summing>,
     plan: &Plan,
     system: &Summing,
-    pass: &mut Pass<u64>,
+    pass: &mut Pass<u64, Values>,
     stages: &[Stage],
 ) -> Result<(), AllocError>
     requires of_board { pass.old.table ≡ board.now.table }
@@ -177,7 +181,7 @@ fn walk(
 ) -> Result<(), AllocError>
     requires { IsPrepared plan.now (lists_of system.now.rows.items) cells.now }
 {
-    let (board, pass) = Board::start(alloc, system, plan, 1000)?;
+    let (board, pass) = Board::start(alloc, system, plan, 1000, false)?;
     let mut pass = pass;
     walked(rt, alloc, &board, plan, system, &mut pass, stages)?;
     ended(rt, board, pass, plan, system, cells);

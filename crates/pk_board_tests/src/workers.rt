@@ -99,11 +99,11 @@ fn each_leaves_the_same<R: Threads + Wait + Sync + Abort>(rt: &R, alloc: Global,
     }
 }
 
-const LINE: [(u32, u32); 4] = [(0, 1), (1, 2), (2, 3), (3, 4)];
+pub const LINE: [(u32, u32); 4] = [(0, 1), (1, 2), (2, 3), (3, 4)];
 
 const DIAMOND: [(u32, u32); 4] = [(0, 1), (0, 2), (1, 3), (2, 3)];
 
-const NESTED: [(u32, u32); 12] = [
+pub const NESTED: [(u32, u32); 12] = [
     (0, 1),
     (1, 2),
     (2, 3),
@@ -119,7 +119,7 @@ const NESTED: [(u32, u32); 12] = [
 ];
 
 // Nine loops, each in the one before: the innermost is gone through 512 times.
-const DEEP: [(u32, u32); 28] = [
+pub const DEEP: [(u32, u32); 28] = [
     (0, 1),
     (1, 2),
     (2, 3),
@@ -151,7 +151,7 @@ const DEEP: [(u32, u32); 28] = [
 ];
 
 // From the first vertex to eight, and from these to the last.
-const FAN: [(u32, u32); 16] = [
+pub const FAN: [(u32, u32); 16] = [
     (0, 1),
     (0, 2),
     (0, 3),
@@ -170,7 +170,7 @@ const FAN: [(u32, u32); 16] = [
     (8, 9),
 ];
 
-const DIGRAPHS: [(u32, &[(u32, u32)]); 4] = [(5, &LINE), (8, &NESTED), (20, &DEEP), (10, &FAN)];
+pub const DIGRAPHS: [(u32, &[(u32, u32)]); 4] = [(5, &LINE), (8, &NESTED), (20, &DEEP), (10, &FAN)];
 
 #[test]
 fn workers_leave_what_the_iteration_leaves(rt: HostRuntime) -> Result<(), AllocError> {

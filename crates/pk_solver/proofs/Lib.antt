@@ -1,3 +1,3 @@
-mod Solved
-mod Outcomes
+pub mod Solved
+pub mod Outcomes
 mod Determined

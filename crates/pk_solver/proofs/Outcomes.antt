@@ -58,7 +58,7 @@ cells_over a order elements most it held is =
         All-cons (IsCellOver a) (cell_after (behaviour_of (equations_of a)) runs e) (map (cell_after (behaviour_of (equations_of a)) runs) es)
         (over_part a e (part_at a.parts e) (cell_after (behaviour_of (equations_of a)) runs e) (held.cells order (elements * most + 1) e)) (each es)
 
-cells_many : (a : Flow) (order : Level) (elements most : ℕ) (it : Outcome (Cell Stated)) → IsResult (behaviour_of (equations_of a)) order elements most it → length it.cells ≡ elements
+pub cells_many : (a : Flow) (order : Level) (elements most : ℕ) (it : Outcome (Cell Stated)) → IsResult (behaviour_of (equations_of a)) order elements most it → length it.cells ≡ elements
 cells_many a order elements most it is =
     ap (λ (cs : List (Cell Stated)). length cs) is.cells_after
     ∙ length-map (range_with_len 0 elements) (cell_after (behaviour_of (equations_of a)) (progress (behaviour_of (equations_of a)) order (elements * most + 1)).runs)

@@ -63,8 +63,8 @@ impl From<AllocError> for SolverError {
     }
 }
 
-// The plan of a graph, of which there is a linear order.
-fn plan_of(alloc: Global, graph: &Graph) -> Result<Plan, AllocError>
+/// The plan of a graph, of which there is a linear order.
+pub fn plan_of(alloc: Global, graph: &Graph) -> Result<Plan, AllocError>
     requires few { length (graph_view graph.now).points ≤ most_points }
     ensures ordered { IfOk result
         (λ plan. (order : Level) × IsOrdered (digraph_of (graph_view graph.now)) plan order) }
@@ -77,8 +77,8 @@ fn plan_of(alloc: Global, graph: &Graph) -> Result<Plan, AllocError>
     Ok(plan)
 }
 
-// The equations of a graph, with the heads and exits of its plan.
-fn analysis_of<'f>(
+/// The equations of a graph, with the heads and exits of its plan.
+pub fn analysis_of<'f>(
     alloc: Global,
     graph: &'f Graph,
     frame: &'f Frame,

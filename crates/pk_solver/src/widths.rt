@@ -41,7 +41,7 @@ fn longest_row(alloc: Global, plan: &Plan) -> Result<u32, AllocError>
 
 /// How many of so many workers pay: all where the gate watches; one where a plan has few elements; and else by how many elements it has for
 /// each one in its longest row, which is how many can be run at once on average. What is answered is the same whatever this gives.
-pub(crate) fn paying_workers<G: Gate>(
+pub fn paying_workers<G: Gate>(
     alloc: Global,
     gate: &G,
     plan: &Plan,

@@ -1,5 +1,5 @@
 -- What a worker has, and what it leaves.
-use Rattle.std.specs.Prelude.{◌≡◌, ℕ, ◌+◌, ◌<◌, ◌≤◌, List, [], ◌∷◌, Option, Some, None, All, true}
+use Rattle.std.specs.Prelude.{◌≡◌, ℕ, ◌+◌, ◌<◌, ◌≤◌, List, [], ◌∷◌, Option, Some, None, All, box_value, true, false}
 use Rattle.atomic_table.specs.Seated.{TableId}
 use Rattle.pk_plan.specs.Order.{Level}
 use Rattle.pk_plan.specs.Plans.{PlanView}
@@ -9,14 +9,20 @@ use Rattle.pk_iterate.specs.Runs.{values_read}
 use Rattle.pk_iterate.specs.Ending.{Ends, trace}
 use Rattle.pk_core.specs.Orders.{IsOrderOf}
 use Rattle.pk_layout.specs.Wirings.{Wiring}
+use Rattle.pk_items.specs.Items.{EndsItem}
 use Rattle.pk_words.specs.declared.view.View.{View}
 use Rattle.pk_words.specs.Tokens.{seen_run}
 use Rattle.pk_words.specs.Board.{IsCause}
 use Rattle.pk_board.specs.Held.{HoldView, SendingView, ResettingView}
 use Rattle.pk_words.specs.Reads.{Counts}
+use Rattle.pk_words.specs.Kinds.{IsPartOf}
+use Rattle.pk_words.specs.Subjects.{SubjectView}
+use Rattle.pk_board.specs.Calls.{IsRunCell}
 use Rattle.pk_board.specs.declared.answers.Got.{Got}
 use Rattle.pk_board.specs.declared.answers.Got.TheVariants.{Ready, Waiting}
 use Rattle.pk_workers.specs.declared.workers.Job.{Job}
+use Rattle.pk_workers.specs.declared.runs.Turn.{Turn}
+use Rattle.pk_workers.specs.declared.runs.Turn.TheVariants.{Again, Done, Last}
 use Rattle.pk_workers.specs.declared.turns.Ending.{Ending}
 use Rattle.pk_workers.specs.declared.turns.Ending.TheVariants.{Finished, Stopped}
 
@@ -77,14 +83,23 @@ abbrev pub AreInputs : {C : Type 0} → Behaviour C → PlanView → HoldView �
 AreInputs b p hold cells = (order : Level) (ends : Ends b order) → IsOrderOf (shape_of p) order
     → cells ≡ values_read b (trace ends) hold.element (hold.run + 1)
 
+-- how a run ends that gives this cell
+abbrev pub IsTurn : {Y C P : Type 0} → Behaviour C → SubjectView Y → (List ℕ → List C → P) → HoldView → C → Turn P → Type 0
+IsTurn b s make hold c Again = IsRunCell b s.wiring.plan hold true c
+IsTurn b s make hold c Done =
+    IsRunCell b s.wiring.plan hold false c × (s.lean ≡ true → EndsItem s.wiring.plan hold.element → ⊥)
+IsTurn b s make hold c (Last part) =
+    IsRunCell b s.wiring.plan hold false c × (s.lean ≡ true) × EndsItem s.wiring.plan hold.element
+    × IsPartOf b s.wiring.plan make hold.element (box_value part)
+
 -- The pass found the last element done, or the board was stopped for this cause.
-abbrev pub IsEnding : {C D : Type 0} → Behaviour C → Wiring → TableId → Ending D → Type 0
+abbrev pub IsEnding : {C D P : Type 0} → Behaviour C → Wiring → TableId → Ending D P → Type 0
 IsEnding b w table (Finished pass finished) = (pass.table ≡ table) × (pass.view.ended ≡ true)
 IsEnding b w table (Stopped why) = IsCause b w why
 
-abbrev pub AreEndings : {C D : Type 0} → Behaviour C → Wiring → TableId → List (Ending D) → Type 0
-AreEndings {C} {D} b w table endings = All (λ (e : Ending D). IsEnding b w table e) endings
+abbrev pub AreEndings : {C D P : Type 0} → Behaviour C → Wiring → TableId → List (Ending D P) → Type 0
+AreEndings {C} {D} {P} b w table endings = All (λ (e : Ending D P). IsEnding b w table e) endings
 
 -- passes of the board, without tokens
-abbrev pub AreJobs : {D B : Type 0} → TableId → List (Job D B) → Type 0
-AreJobs {D} {B} table jobs = All (λ (j : Job D B). (j.pass.table ≡ table) × HasJust j.pass.view None None None) jobs
+abbrev pub AreJobs : {D P B : Type 0} → TableId → List (Job D P B) → Type 0
+AreJobs {D} {P} {B} table jobs = All (λ (j : Job D P B). (j.pass.table ≡ table) × HasJust j.pass.view None None None) jobs

@@ -6,13 +6,13 @@ ghost use Rattle.pk_workers.specs.Working.{HasJust, HasSeen, IsRunnable, HasGot}
 
 use pk_board::{Armed, Arrived, Board, Got, Hold, Pass, Resetting, Sending};
 use pk_hints::{Bound, Hall, Hints};
-use pk_iterate::System;
+use pk_words::Parted;
 
 /// What is kept once an element was told: the Hold that there was, or else that of the element, if it is ready. One that isn't kept is offered,
 /// with a hint.
-fn keep<Y: System, B: Bound>(
+fn keep<Y: Parted, B: Bound>(
     board: &Board<Y>,
-    pass: &mut Pass<Y::Cell>,
+    pass: &mut Pass<Y::Cell, Y::Part>,
     hall: &Hall<B>,
     hints: &mut Hints<B>,
     kept: Option<Hold>,
@@ -44,9 +44,9 @@ fn keep<Y: System, B: Bound>(
 }
 
 /// Tells the next successor. There is a Sending of those that are left, and the Hold that is kept.
-fn tell_next<Y: System, B: Bound>(
+fn tell_next<Y: Parted, B: Bound>(
     board: &Board<Y>,
-    pass: &mut Pass<Y::Cell>,
+    pass: &mut Pass<Y::Cell, Y::Part>,
     hall: &Hall<B>,
     hints: &mut Hints<B>,
     sending: Sending,
@@ -72,9 +72,9 @@ fn tell_next<Y: System, B: Bound>(
 }
 
 /// Tells all successors. Of the elements that become ready the first is kept, and each other one is offered.
-pub(crate) fn tell_all<Y: System, B: Bound>(
+pub(crate) fn tell_all<Y: Parted, B: Bound>(
     board: &Board<Y>,
-    pass: &mut Pass<Y::Cell>,
+    pass: &mut Pass<Y::Cell, Y::Part>,
     hall: &Hall<B>,
     hints: &mut Hints<B>,
     sending: Sending,
@@ -97,9 +97,9 @@ pub(crate) fn tell_all<Y: System, B: Bound>(
 }
 
 /// Arms all members of a component. The Hold is that of its head.
-pub(crate) fn arm_all<Y: System>(
+pub(crate) fn arm_all<Y: Parted>(
     board: &Board<Y>,
-    pass: &mut Pass<Y::Cell>,
+    pass: &mut Pass<Y::Cell, Y::Part>,
     resetting: Resetting,
 ) -> Hold
     requires of_board { pass.old.table ≡ board.now.table }

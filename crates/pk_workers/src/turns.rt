@@ -8,23 +8,25 @@ use crate::gates::Gate;
 use crate::runs::run_one;
 use pk_board::{Board, Finished, Hold, Pass, Stopped};
 use pk_hints::{Bound, Hall, Hints, Rest};
-use pk_iterate::System;
-use pk_words::Why;
+use pk_words::{Parted, Why};
 use std::alloc::Global;
 use std::sync::Wait;
 use std::thread::Threads;
 
 /// How a worker ends: its pass found the last element done, or the board was stopped.
 #[derive(Drop)]
-pub enum Ending<C> {
-    Finished { pass: Pass<C>, finished: Finished },
+pub enum Ending<C: Drop, P: Drop> {
+    Finished {
+        pass: Pass<C, P>,
+        finished: Finished,
+    },
     Stopped(Stopped),
 }
 
 /// Whether the last element is done. A pass with a Hold doesn't look, since it isn't.
-fn look_at_end<Y: System>(
+fn look_at_end<Y: Parted>(
     board: &Board<Y>,
-    pass: &mut Pass<Y::Cell>,
+    pass: &mut Pass<Y::Cell, Y::Part>,
     kept: &Option<Hold>,
 ) -> Option<Finished>
     requires of_board { pass.old.table ≡ board.now.table }
@@ -42,7 +44,7 @@ fn look_at_end<Y: System>(
 }
 
 /// Claims an element, if it is open.
-fn claim_one<Y: System>(board: &Board<Y>, pass: &mut Pass<Y::Cell>, e: u32) -> Option<Hold>
+fn claim_one<Y: Parted>(board: &Board<Y>, pass: &mut Pass<Y::Cell, Y::Part>, e: u32) -> Option<Hold>
     requires of_board { pass.old.table ≡ board.now.table }
     requires tokens { HasJust pass.old.view None None None }
     requires element { e < board.now.subject.wiring.plan.elements }
@@ -57,9 +59,9 @@ fn claim_one<Y: System>(board: &Board<Y>, pass: &mut Pass<Y::Cell>, e: u32) -> O
 }
 
 /// Claims the first open element from one on and below another.
-fn claim_between<Y: System>(
+fn claim_between<Y: Parted>(
     board: &Board<Y>,
-    pass: &mut Pass<Y::Cell>,
+    pass: &mut Pass<Y::Cell, Y::Part>,
     from: u32,
     end: u32,
 ) -> Option<Hold>
@@ -79,7 +81,11 @@ fn claim_between<Y: System>(
 }
 
 /// Claims an open element, looking at each from one on and then at those before it.
-fn claim_any<Y: System>(board: &Board<Y>, pass: &mut Pass<Y::Cell>, from: u32) -> Option<Hold>
+fn claim_any<Y: Parted>(
+    board: &Board<Y>,
+    pass: &mut Pass<Y::Cell, Y::Part>,
+    from: u32,
+) -> Option<Hold>
     requires of_board { pass.old.table ≡ board.now.table }
     requires tokens { HasJust pass.old.view None None None }
     requires from { from ≤ board.now.subject.wiring.plan.elements }
@@ -95,9 +101,9 @@ fn claim_any<Y: System>(board: &Board<Y>, pass: &mut Pass<Y::Cell>, from: u32) -
 }
 
 /// Claims the element of a hint, or, where there is none and the worker is to walk, an open element.
-fn claim_next<Y: System, B: Bound>(
+fn claim_next<Y: Parted, B: Bound>(
     board: &Board<Y>,
-    pass: &mut Pass<Y::Cell>,
+    pass: &mut Pass<Y::Cell, Y::Part>,
     hall: &Hall<B>,
     hints: &mut Hints<B>,
     worker: u32,
@@ -120,9 +126,9 @@ fn claim_next<Y: System, B: Bound>(
 }
 
 /// The Hold that was kept, or else that of an open element.
-fn next_hold<Y: System, B: Bound>(
+fn next_hold<Y: Parted, B: Bound>(
     board: &Board<Y>,
-    pass: &mut Pass<Y::Cell>,
+    pass: &mut Pass<Y::Cell, Y::Part>,
     hall: &Hall<B>,
     hints: &mut Hints<B>,
     worker: u32,
@@ -146,7 +152,7 @@ fn next_hold<Y: System, B: Bound>(
 }
 
 /// Stops the board.
-fn stop<Y: System>(board: &Board<Y>, pass: &mut Pass<Y::Cell>, why: Why) -> Stopped
+fn stop<Y: Parted>(board: &Board<Y>, pass: &mut Pass<Y::Cell, Y::Part>, why: Why) -> Stopped
     requires of_board { pass.old.table ≡ board.now.table }
     requires cause { IsCause (Y.meaning board.now.subject.system) board.now.subject.wiring why }
     ensures { IsCause (Y.meaning board.now.subject.system) board.now.subject.wiring result }
@@ -159,16 +165,16 @@ fn stop<Y: System>(board: &Board<Y>, pass: &mut Pass<Y::Cell>, why: Why) -> Stop
 }
 
 /// Works until the last element is done or the board is stopped.
-pub fn work<R: Threads + Wait, Y: System, G: Gate, B: Bound>(
+pub fn work<R: Threads + Wait, Y: Parted, G: Gate, B: Bound>(
     rt: &R,
     alloc: Global,
     gate: &G,
     hall: &Hall<B>,
     worker: u32,
     board: &Board<Y>,
-    pass: Pass<Y::Cell>,
+    pass: Pass<Y::Cell, Y::Part>,
     hints: Hints<B>,
-) -> Ending<Y::Cell>
+) -> Ending<Y::Cell, Y::Part>
     requires of_board { pass.table ≡ board.now.table }
     requires bound { B.elements ≡ board.now.subject.wiring.plan.elements }
     requires tokens { HasJust pass.view None None None }

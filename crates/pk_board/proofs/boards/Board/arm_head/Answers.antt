@@ -1,5 +1,4 @@
 use Rattle.std.proofs.Common.{◌∙◌, ap, sym, subst}
-use Rattle.std.specs.Arc.{arc_value}
 use Rattle.pk_words.specs.Told.{HeadArmed}
 use Rattle.pk_board.proofs.Asking.{at_board}
 use Rattle.pk_board.proofs.Restarting.{head_asked, same_word}
@@ -12,7 +11,7 @@ arm_head_told-word-requires g c =
     let board = c.args.self.now in
     let meaning = g.Y.System.meaning in
     let seat = c.args.seat.now in
-    head_asked meaning arc_value board.subject inside.table.shared.key table seat.table_id seat.id c.args.exit c.args.head seat.me (at_board meaning board inside.subject inside.table.shared.key table c.self.view_is c.self.invariant.kept)
+    head_asked meaning g.Y.Parted.part_of board.subject inside.table.shared.key table seat.table_id seat.id c.args.exit c.args.head seat.me (at_board meaning board inside.subject inside.table.shared.key table c.self.view_is c.self.invariant.kept)
     (c.requires.of_board ∙ sym (ap (λ b. b.table) c.self.view_is)) c.requires.idle c.requires.resets c.requires.below c.requires.head
 
 pub returns-clause-armed : goal.returns-clause-armed

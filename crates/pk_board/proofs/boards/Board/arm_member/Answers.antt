@@ -1,5 +1,4 @@
 use Rattle.std.proofs.Common.{◌∙◌, ap, sym}
-use Rattle.std.specs.Arc.{arc_value}
 use Rattle.pk_board.proofs.Asking.{at_board}
 use Rattle.pk_board.proofs.Restarting.{arm_asked}
 use Rattle.pk_board.proofs.boards.Board.arm_member.Goals as goal
@@ -11,5 +10,5 @@ arm_told-requires g c =
     let board = c.args.self.now in
     let meaning = g.Y.System.meaning in
     let seat = c.args.seat.now in
-    arm_asked meaning arc_value board.subject inside.table.shared.key table seat.table_id seat.id c.args.exit c.args.left c.args.member c.args.amount seat.me (at_board meaning board inside.subject inside.table.shared.key table c.self.view_is c.self.invariant.kept)
+    arm_asked meaning g.Y.Parted.part_of board.subject inside.table.shared.key table seat.table_id seat.id c.args.exit c.args.left c.args.member c.args.amount seat.me (at_board meaning board inside.subject inside.table.shared.key table c.self.view_is c.self.invariant.kept)
     (c.requires.of_board ∙ sym (ap (λ b. b.table) c.self.view_is)) c.requires.idle c.requires.resets c.requires.some_left c.requires.below c.requires.member c.requires.amount

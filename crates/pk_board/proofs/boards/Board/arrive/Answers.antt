@@ -1,5 +1,4 @@
 use Rattle.std.proofs.Common.{◌≡◌, ℕ, ◌∙◌, ◌+◌, ◌<◌, List, length, get_or, ap, sym, subst, arith}
-use Rattle.std.specs.Arc.{arc_value}
 use Rattle.pk_plan.specs.Plans.{PlanView, successors_of}
 use Rattle.pk_words.specs.Views.{HasSending}
 use Rattle.pk_words.specs.Told.{Sent}
@@ -22,7 +21,7 @@ decrement_told-found-requires g c =
     let below : a < p.elements = subst (λ (j : ℕ). j < p.elements) (sym c.element-element.ensures) c.requires.sending.element in
     let in_range : i < length (successors_of p a) = omega (arith, c.requires.sending.some_left, c.sent-sent.ensures, ap (λ (j : ℕ). length (successors_of p j)) c.element-element.ensures) in
     let has = subst (λ v. HasSending v a i) (sym (ap (λ q. q.view) c.pass.view_is)) (subst (λ (j : ℕ). HasSending c.args.pass.now.view j i) (sym c.element-element.ensures) (subst (λ (k : ℕ). HasSending c.args.pass.now.view c.args.sending.element k) (sym c.sent-sent.ensures) c.requires.sends)) in
-    send_asked meaning arc_value board inside.table.shared.key table seat.table_id seat.id a i (get_or c.successors-targets.result.now i 0) seat.me (at_board meaning board inside.subject inside.table.shared.key table c.self.view_is c.self.invariant.kept)
+    send_asked meaning g.Y.Parted.part_of board inside.table.shared.key table seat.table_id seat.id a i (get_or c.successors-targets.result.now i 0) seat.me (at_board meaning board inside.subject inside.table.shared.key table c.self.view_is c.self.invariant.kept)
     (own_table board c.args.pass.now inside.subject table seat.table_id seat.me.0 c.self.view_is c.pass.view_is c.requires.of_board)
     below in_range (ap (λ (xs : List ℕ). get_or xs i 0) targets) c.pass.invariant has
 

@@ -1,5 +1,4 @@
 use Rattle.std.proofs.Common.{◌∙◌, ap, sym, subst, rules}
-use Rattle.std.specs.Arc.{arc_value}
 use Rattle.pk_words.specs.Told.{Claimed}
 use Rattle.pk_board.specs.Calls.{IsClaimed}
 use Rattle.pk_board.proofs.Asking.{at_board, own_table, load_asked, claim_asked}
@@ -13,7 +12,7 @@ load_told-found-requires g c =
     let seat = c.pass.inside.seat in
     let board = c.args.self.now in
     let meaning = g.Y.System.meaning in
-    load_asked meaning arc_value board inside.table.shared.key table seat.table_id seat.id c.args.e seat.me (at_board meaning board inside.subject inside.table.shared.key table c.self.view_is c.self.invariant.kept)
+    load_asked meaning g.Y.Parted.part_of board inside.table.shared.key table seat.table_id seat.id c.args.e seat.me (at_board meaning board inside.subject inside.table.shared.key table c.self.view_is c.self.invariant.kept)
     (own_table board c.args.pass.now inside.subject table seat.table_id seat.me.0 c.self.view_is c.pass.view_is c.requires.of_board) c.requires.element c.pass.invariant
 
 pub invariant_of-pass : goal.invariant_of-pass
@@ -31,7 +30,7 @@ exchange_told-seen-requires g c =
     let next = c.load_told-found.new.seat in
     let board = c.args.self.now in
     let meaning = g.Y.System.meaning in
-    claim_asked meaning arc_value board inside.table.shared.key table next.table_id next.id c.args.e c.load_told-found.result next.me (at_board meaning board inside.subject inside.table.shared.key table c.self.view_is c.self.invariant.kept)
+    claim_asked meaning g.Y.Parted.part_of board inside.table.shared.key table next.table_id next.id c.args.e c.load_told-found.result next.me (at_board meaning board inside.subject inside.table.shared.key table c.self.view_is c.self.invariant.kept)
     (c.load_told-found.ensures.0 ∙ own_table board c.args.pass.now inside.subject table seat.table_id seat.me.0 c.self.view_is c.pass.view_is c.requires.of_board) c.requires.element
     (note_idle c.args.e c.load_told-found.result seat.me next.me c.load_told-found.ensures.2) (search rules)
 

@@ -1,6 +1,7 @@
 use Rattle.std.proofs.Common.{◌≡◌, ℕ, ◌∙◌, ◌<◌, length, ap, sym, subst, refl, false}
 use Rattle.std.specs.Arc.{arc_value}
 use Rattle.pk_plan.specs.Plans.{PlanView, successors_of}
+use Rattle.pk_items.specs.Items.{EndsItem}
 use Rattle.pk_words.specs.Views.{HasHold}
 use Rattle.pk_board.specs.Calls.{IsRunCell}
 use Rattle.pk_board.proofs.Asking.{at_board, own_table, done_asked}
@@ -28,9 +29,9 @@ store_told-requires g c =
     let hold = subst (λ u. HasHold u e run) (sym (ap (λ q. q.view) c.pass.view_is)) (subst (λ (j : ℕ). HasHold c.args.pass.now.view j run) (sym c.element-element.ensures) (subst (λ (r : ℕ). HasHold c.args.pass.now.view c.args.hold.element r) (sym c.run.ensures) c.requires.held)) in
     let cell' = subst (λ d. IsRunCell b p c.args.hold false d) (sym (ap (λ q. q.cell) c.copies.view_is)) c.requires.cell in
     let cell = subst (λ (j : ℕ). IsRunCell b p (record { element = j; run = run }) false v) (sym c.element-element.ensures) (subst (λ (r : ℕ). IsRunCell b p (record { element = c.args.hold.element; run = r }) false v) (sym c.run.ensures) cell') in
-    done_asked meaning arc_value board inside.table.shared.key table next.table_id next.id e run v seat.me.0 next.me kept
+    done_asked meaning g.Y.Parted.part_of board inside.table.shared.key table next.table_id next.id e run v seat.me.0 next.me kept
     (c.put_all.ensures.same.0 ∙ own_table board c.args.pass.now inside.subject table seat.table_id seat.me.0 c.self.view_is c.pass.view_is c.requires.of_board)
-    (subst (λ (j : ℕ). j < p.elements) (sym c.element-element.ensures) c.requires.element) hold (subst (λ (r : ℕ). r < board.subject.wiring.limit) (sym c.run.ensures) c.requires.room) c.put_all.ensures.written cell
+    (subst (λ (j : ℕ). j < p.elements) (sym c.element-element.ensures) c.requires.element) hold (subst (λ (r : ℕ). r < board.subject.wiring.limit) (sym c.run.ensures) c.requires.room) (λ lean item. c.requires.going lean (subst (EndsItem p) c.element-element.ensures item)) c.put_all.ensures.written cell
 
 pub returns-then-is_empty-clause-end : goal.returns-then-is_empty-clause-end
 returns-then-is_empty-clause-end g c =

@@ -1,5 +1,4 @@
 use Rattle.std.proofs.Common.{◌∙◌, ap, subst, rules, ◌-◌}
-use Rattle.std.specs.Arc.{arc_value}
 use Rattle.pk_plan.specs.Plans.{PlanView, end_of}
 use Rattle.pk_words.specs.Told.{Ended}
 use Rattle.pk_board.proofs.Asking.{at_board, own_table, end_asked, last_is}
@@ -14,7 +13,7 @@ load_told-found-requires g c =
     let board = c.args.self.now in
     let meaning = g.Y.System.meaning in
     let kept = at_board meaning board inside.subject inside.table.shared.key table c.self.view_is c.self.invariant.kept in
-    end_asked meaning arc_value board inside.table.shared.key table seat.table_id seat.id (c.elements-last.result - 1) seat.me kept
+    end_asked meaning g.Y.Parted.part_of board inside.table.shared.key table seat.table_id seat.id (c.elements-last.result - 1) seat.me kept
     (own_table board c.args.pass.now inside.subject table seat.table_id seat.me.0 c.self.view_is c.pass.view_is c.requires.of_board)
     (last_is kept (c.elements-last.ensures ∙ ap (λ (p : PlanView). p.elements) (c.plan.ensures ∙ ap (λ b. b.subject.wiring.plan) c.self.view_is))) c.pass.invariant
 

@@ -1,5 +1,4 @@
 use Rattle.std.proofs.Common.{ℕ, ◌∙◌, ◌<◌, ap, sym, subst, refl}
-use Rattle.std.specs.Arc.{arc_value}
 use Rattle.pk_words.specs.Views.{HasHold, offer_view}
 use Rattle.pk_board.proofs.Asking.{at_board, own_table, offer_asked}
 use Rattle.pk_board.proofs.Telling.{idle_at}
@@ -16,7 +15,7 @@ store_told-requires g c =
     let e = c.element-element.result in
     let run = c.run.result in
     let hold = subst (λ v. HasHold v e run) (sym (ap (λ p. p.view) c.pass.view_is)) (subst (λ (j : ℕ). HasHold c.args.pass.now.view j run) (sym c.element-element.ensures) (subst (λ (r : ℕ). HasHold c.args.pass.now.view c.args.hold.element r) (sym c.run.ensures) c.requires.held)) in
-    offer_asked meaning arc_value board inside.table.shared.key table seat.table_id seat.id e run seat.me kept
+    offer_asked meaning g.Y.Parted.part_of board inside.table.shared.key table seat.table_id seat.id e run seat.me kept
     (own_table board c.args.pass.now inside.subject table seat.table_id seat.me.0 c.self.view_is c.pass.view_is c.requires.of_board)
     (subst (λ (j : ℕ). j < board.subject.wiring.plan.elements) (sym c.element-element.ensures) c.requires.element) c.pass.invariant hold
 

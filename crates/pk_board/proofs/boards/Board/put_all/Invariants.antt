@@ -11,7 +11,7 @@ invariant-loop-cell g l = record {
   at : l.slot ≡ first_of l.self.subject.wiring.layout l.e + (length l.cells.items + 1);
   within : l.slot ≤ first_of l.self.subject.wiring.layout (l.e + 1);
   equal : map arc_value l.cells.items ≡ replicate (length l.cells.items) (arc_value l.first);
-  writing : IsWriting arc_value l.self.subject.wiring l.e (arc_value l.first) l.slot l.initial.seat.me.0 l.seat.me;
+  writing : IsWriting l.self.subject.wiring l.e (arc_value l.first) l.slot l.initial.seat.me.0 l.seat.me;
 }
 
 abbrev pub decreases-loop-cell : goal.decreases-loop-cell

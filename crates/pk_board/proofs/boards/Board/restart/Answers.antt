@@ -1,5 +1,4 @@
 use Rattle.std.proofs.Common.{◌≡◌, ℕ, ◌+◌, ◌*◌, ◌<◌, ◌∙◌, inr, length, true, ap, sym, subst}
-use Rattle.std.specs.Arc.{arc_value}
 use Rattle.pk_plan.specs.Plans.{members_of}
 use Rattle.pk_plan.specs.Shape.{exits, shape_of}
 use Rattle.pk_core.specs.Events.{inner}
@@ -49,7 +48,7 @@ store_told-requires g c =
     let count = exit_count (meaning board.subject.system) board.subject.wiring c.plan-plan.result.now c.component_of-component.result.now c.args.exit c.args.exit kept.wired plan_is c.component_of-component.ensures.component exit in
     let word = (c.args.run + 1) * 1048576 + c.inner-waits.result in
     let word_is : word ≡ (c.args.run + 1) * 1048576 + inner (shape_of board.subject.wiring.plan) c.args.exit c.args.exit = ap (λ (n : ℕ). (c.args.run + 1) * 1048576 + n) (c.inner-waits.ensures ∙ count) in
-    restart_asked meaning arc_value board.subject key table c.args.seat.now.table_id c.args.seat.now.id c.args.exit c.args.run word written.0 written.1 c.args.seat.now.me kept (c.requires.of_board ∙ sym (ap (λ b. b.table) c.self.view_is))
+    restart_asked meaning g.Y.Parted.part_of board.subject key table c.args.seat.now.table_id c.args.seat.now.id c.args.exit c.args.run word written.0 written.1 c.args.seat.now.me kept (c.requires.of_board ∙ sym (ap (λ b. b.table) c.self.view_is))
     c.requires.below c.requires.held c.requires.room written.2 written.3 word_is
 
 pub returns-clause-told : goal.returns-clause-told

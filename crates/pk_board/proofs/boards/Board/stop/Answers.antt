@@ -1,5 +1,4 @@
 use Rattle.std.proofs.Common.{◌≡◌, ◌∙◌, ap, sym, subst, Some}
-use Rattle.std.specs.Arc.{arc_value}
 use Rattle.pk_words.specs.Board.{why_of, NamesLimit}
 use Rattle.pk_board.proofs.Asking.{at_board, own_table}
 use Rattle.pk_board.proofs.Stopping.{names_limit, stop_asked, stop_idle, is_stop}
@@ -19,7 +18,7 @@ store_told-requires g c =
     let board = c.args.self.now in
     let meaning = g.Y.System.meaning in
     let same : c.limit.result ≡ board.subject.wiring.limit = c.limit.ensures ∙ ap (λ b. b.subject.wiring.limit) c.self.view_is in
-    stop_asked meaning arc_value board.subject inside.table.shared.key table seat.table_id seat.id c.stop_word-word.result c.args.why seat.me (at_board meaning board inside.subject inside.table.shared.key table c.self.view_is c.self.invariant.kept)
+    stop_asked meaning g.Y.Parted.part_of board.subject inside.table.shared.key table seat.table_id seat.id c.stop_word-word.result c.args.why seat.me (at_board meaning board inside.subject inside.table.shared.key table c.self.view_is c.self.invariant.kept)
     (own_table board c.args.pass.now inside.subject table seat.table_id seat.me.0 c.self.view_is c.pass.view_is c.requires.of_board) c.pass.invariant
     (subst (λ n. why_of n c.stop_word-word.result ≡ Some c.args.why) same c.stop_word-word.ensures) c.requires.cause
 

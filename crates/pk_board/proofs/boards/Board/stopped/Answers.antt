@@ -1,4 +1,3 @@
-use Rattle.std.specs.Arc.{arc_value}
 use Rattle.pk_board.proofs.Asking.{at_board, own_table}
 use Rattle.pk_board.proofs.Stopping.{stopped_asked, word_asked}
 use Rattle.pk_board.proofs.boards.Board.stopped.Goals as goal
@@ -10,7 +9,7 @@ load_told-word-requires g c =
     let seat = c.pass.inside.seat in
     let board = c.args.self.now in
     let meaning = g.Y.System.meaning in
-    stopped_asked meaning arc_value board.subject inside.table.shared.key table seat.table_id seat.id seat.me (at_board meaning board inside.subject inside.table.shared.key table c.self.view_is c.self.invariant.kept)
+    stopped_asked meaning g.Y.Parted.part_of board.subject inside.table.shared.key table seat.table_id seat.id seat.me (at_board meaning board inside.subject inside.table.shared.key table c.self.view_is c.self.invariant.kept)
     (own_table board c.args.pass.now inside.subject table seat.table_id seat.me.0 c.self.view_is c.pass.view_is c.requires.of_board) c.pass.invariant
 
 pub why_in-requires : goal.why_in-requires
