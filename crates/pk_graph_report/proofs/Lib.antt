@@ -1,5 +1,4 @@
-mod Told
-mod Lines
+mod PointByPoint
 mod Determined
 mod Telling
 pub mod Reporting

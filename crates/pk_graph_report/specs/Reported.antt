@@ -1,26 +1,18 @@
 -- What is told of a graph by the states of its points.
-use Rattle.std.specs.Prelude.{◌≡◌, ℕ, Bool, List, map}
-use Rattle.pk_graph.specs.declared.verdicts.Verdict.{Verdict}
-use Rattle.pk_graph.specs.Accesses.{AccessOf, accesses_of}
+use Rattle.std.specs.Prelude.{◌≡◌, ℕ, Bool, List}
+use Rattle.pk_graph.specs.Accesses.{accesses_of}
 use Rattle.pk_graph.specs.Graphs.{GraphOf}
 use Rattle.pk_state.specs.Facts.{Stated}
-use Rattle.pk_verdict.specs.Verdicts.{verdict_of}
 use Rattle.pk_plan.specs.Order.{Level}
 use Rattle.pk_plan.specs.Plans.{PlanView}
 use Rattle.pk_order.specs.Ordered.{IsOrdered, heads_of}
 use Rattle.pk_peak.specs.Texts.{order_lines}
 use Rattle.pk_analysis.specs.declared.analysis.Options.{Options}
 use Rattle.pk_analysis.specs.Digraphs.{digraph_of}
-use Rattle.pk_report.specs.Reports.{state_at, report_text, summary_text, unknown_in}
+use Rattle.pk_report.specs.Reports.{report_text, summary_text, unknown_in}
+pub use Rattle.pk_pieces.specs.Joined.{verdict_at, verdicts_of}
 use Rattle.pk_analysis_laws.specs.Systems.{IsOver}
 use Rattle.pk_solver.specs.Solved.{AreStates}
-
--- by the state of the access's point
-abbrev pub verdict_at : List Stated → AccessOf → Verdict
-verdict_at states a = verdict_of (state_at states a.point).layout (state_at states a.point).facts a.operation
-
-abbrev pub verdicts_of : GraphOf → List Stated → List Verdict
-verdicts_of g states = map (verdict_at states) (accesses_of g)
 
 -- the report, and its number of unknown verdicts
 pub record IsReport (g : GraphOf) (o : Options) (most : ℕ) (all : Bool) (unknown : ℕ) (bytes : List ℕ) : Type 0 where

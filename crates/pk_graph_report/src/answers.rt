@@ -5,21 +5,22 @@ ghost use Rattle.pk_graph.specs.Shown.{graph_view};
 ghost use Rattle.pk_graph.specs.Accesses.{accesses_of};
 ghost use Rattle.pk_order.specs.Ordered.{heads_of};
 ghost use Rattle.pk_report.specs.Reports.{checked_text, report_text, summary_text, unknown_in};
+ghost use Rattle.pk_pieces.specs.Joined.{verdicts_of};
 ghost use Rattle.pk_solver.specs.Solved.{AreOver};
-ghost use Rattle.pk_graph_report.specs.Reported.{IsOrderText, verdicts_of};
+ghost use Rattle.pk_graph_report.specs.Reported.{IsOrderText};
 
-use crate::points::write_points;
-use crate::verdicts::verdicts;
+use crate::pieces::with_pieces;
 use pk_analysis::{Options, States, digraph};
 use pk_graph::{Graph, accesses};
 use pk_order::ordered;
 use pk_peak::order_lines;
+use pk_pieces::reports_are_joined;
 use pk_plan::Plan;
-use pk_report::{summary, unknown_count, write_accesses, write_first, write_last, write_valid};
+use pk_report::{summary, unknown_count, write_first, write_valid};
 use std::alloc::{AllocError, Global};
 
-// The heads of a plan's components, in rising order.
-fn heads(alloc: Global, plan: &Plan) -> Result<Vec<u32>, AllocError>
+/// The heads of a plan's components, in rising order.
+pub fn heads(alloc: Global, plan: &Plan) -> Result<Vec<u32>, AllocError>
     ensures { IfOk result (λ heads. heads.items ≡ heads_of plan.now) }
 {
     let mut heads = Vec::with_capacity(alloc, plan.components().len())?;
@@ -44,15 +45,14 @@ pub fn report_of(
         (verdicts_of (graph_view graph.now) states.now)) }
     ensures unknown { IfOk result (λ r. r.1 ≡ unknown_in (verdicts_of (graph_view graph.now) states.now)) }
 {
+    reports_are_joined();
     let heads = heads(alloc, plan)?;
-    let mut bytes = Vec::new(alloc);
-    write_first(alloc, &mut bytes, graph, plan.elements() as usize)?;
-    write_points(alloc, &mut bytes, graph, options, &heads, states, all)?;
     let accesses = accesses(alloc, graph)?;
-    let verdicts = verdicts(alloc, graph, options, states, &accesses)?;
-    write_accesses(alloc, &mut bytes, graph.paths(), &accesses, &verdicts)?;
-    write_last(alloc, &mut bytes, &verdicts)?;
-    Ok((bytes, unknown_count(&verdicts)))
+    let mut first = Vec::new(alloc);
+    write_first(alloc, &mut first, graph, plan.elements() as usize)?;
+    let report = with_pieces(alloc, first, graph, options, &accesses, &heads, states, all)?;
+    let told = report.end(alloc, graph, &accesses)?;
+    Ok(told)
 }
 
 /// The summary of a made text of `text_length` bytes by the reduced state of each point, and its number of unknown verdicts.
@@ -71,8 +71,11 @@ pub fn summary_of(
         plan.now.elements (verdicts_of (graph_view graph.now) states.now)) }
     ensures unknown { IfOk result (λ r. r.1 ≡ unknown_in (verdicts_of (graph_view graph.now) states.now)) }
 {
+    reports_are_joined();
     let accesses = accesses(alloc, graph)?;
-    let verdicts = verdicts(alloc, graph, options, states, &accesses)?;
+    let first = Vec::new(alloc);
+    let report = with_pieces(alloc, first, graph, options, &accesses, &[], states, false)?;
+    let verdicts = report.verdicts();
     let bytes = summary(
         alloc,
         seed,
@@ -80,9 +83,9 @@ pub fn summary_of(
         text_length,
         graph,
         plan.elements() as usize,
-        &verdicts,
+        verdicts,
     )?;
-    Ok((bytes, unknown_count(&verdicts)))
+    Ok((bytes, unknown_count(verdicts)))
 }
 
 /// What is told of a graph by reduced states of its points that were checked, and the number of unknown verdicts.
@@ -97,13 +100,13 @@ pub fn checked_of(
         (accesses_of (graph_view graph.now)) (verdicts_of (graph_view graph.now) states.now)) }
     ensures unknown { IfOk result (λ r. r.1 ≡ unknown_in (verdicts_of (graph_view graph.now) states.now)) }
 {
+    reports_are_joined();
     let accesses = accesses(alloc, graph)?;
-    let verdicts = verdicts(alloc, graph, options, states, &accesses)?;
-    let mut bytes = Vec::new(alloc);
-    write_valid(alloc, &mut bytes, graph)?;
-    write_accesses(alloc, &mut bytes, graph.paths(), &accesses, &verdicts)?;
-    write_last(alloc, &mut bytes, &verdicts)?;
-    Ok((bytes, unknown_count(&verdicts)))
+    let mut first = Vec::new(alloc);
+    write_valid(alloc, &mut first, graph)?;
+    let report = with_pieces(alloc, first, graph, options, &accesses, &[], states, false)?;
+    let told = report.end(alloc, graph, &accesses)?;
+    Ok(told)
 }
 
 /// The linear order of a graph's plan, and its peak where it is asked for, without the last line's end.

@@ -3,8 +3,7 @@
 
 mod answers;
 mod laws;
-mod points;
-mod verdicts;
+mod pieces;
 
-pub use answers::{checked_of, order_of, report_of, summary_of};
+pub use answers::{checked_of, heads, order_of, report_of, summary_of};
 pub use laws::one_report;

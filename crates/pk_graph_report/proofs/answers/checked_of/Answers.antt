@@ -1,20 +1,21 @@
-use Rattle.std.proofs.Common.{ap, ◌∙◌, map}
-use Rattle.pk_graph.specs.AccessViews.{access_views}
-use Rattle.pk_graph.specs.Graphs.{path_view}
+use Rattle.std.proofs.Common.{ap, ◌∙◌, ◌++◌, List, [], ℕ, false}
 use Rattle.pk_graph.specs.Shown.{graph_view}
-use Rattle.pk_graph_report.proofs.Telling.{checked_told, count_told}
+use Rattle.pk_report.specs.Reports.{valid_line}
+use Rattle.pk_graph_report.proofs.Telling.{many_told, checked_told, count_told}
 use Rattle.pk_graph_report.proofs.answers.checked_of.Goals as goal
+
+pub end-requires-clause-verdicts : goal.end-requires-clause-verdicts
+end-requires-clause-verdicts c =
+    many_told c.reports_are_joined.ensures (graph_view c.args.graph.now) c.args.states.now false [] c.write_valid.new.bytes.items c.in_ok-report.report c.in_ok-report.ensures
 
 pub returns-clause-bytes : goal.returns-clause-bytes
 returns-clause-bytes c =
-    checked_told (graph_view c.args.graph.now) c.args.states.now
-    (map path_view c.paths.result.now) (access_views c.deref-2.result.now) c.deref-3.result.now c.deref-4.result.now
-    c.new-bytes.result.items c.write_valid.new.bytes.items c.write_accesses.new.bytes.items c.write_last.new.bytes.items
-    c.new-bytes.ensures.items c.paths.ensures
-    (ap access_views c.deref-2.ensures.value ∙ c.in_ok-accesses.ensures) (c.deref-3.ensures.value ∙ c.in_ok-verdicts.ensures) (c.deref-4.ensures.value ∙ c.in_ok-verdicts.ensures)
-    c.in_ok-write_valid.ensures c.in_ok-write_accesses.ensures c.in_ok-write_last.ensures
+    let g = graph_view c.args.graph.now in
+    checked_told c.reports_are_joined.ensures g c.args.states.now c.write_valid.new.bytes.items c.in_ok-report.report c.in_ok-told.told.0.items
+    (c.in_ok-write_valid.ensures ∙ ap (λ (bs : List ℕ). bs ++ valid_line g) c.new-first.ensures.items)
+    c.in_ok-report.ensures c.in_ok-told.ensures.bytes
 
 pub returns-clause-unknown : goal.returns-clause-unknown
 returns-clause-unknown c =
-    count_told (graph_view c.args.graph.now) c.args.states.now c.deref-5.result.now c.unknown_count.result
-    (c.deref-5.ensures.value ∙ c.in_ok-verdicts.ensures) c.unknown_count.ensures
+    count_told c.reports_are_joined.ensures (graph_view c.args.graph.now) c.args.states.now false [] c.write_valid.new.bytes.items c.in_ok-report.report c.in_ok-report.ensures
+    c.in_ok-told.told.1 c.in_ok-told.ensures.unknown

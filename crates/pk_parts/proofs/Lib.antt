@@ -1,0 +1,3 @@
+mod ByCells
+mod Items
+pub mod Shared

@@ -1,0 +1,4 @@
+pub mod Accesses
+pub mod Pieces
+pub mod Joined
+pub mod Reports
