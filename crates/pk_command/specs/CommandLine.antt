@@ -47,9 +47,9 @@ run_number_options = workers_option
     ∷ number_option (codes "max-runs") 1 549755813888
     ∷ []
 
--- `run [--workers N] [--delay D] [--narrow K] [--oct N] [--max-runs N] [--entry NAME] [--points]`
+-- `run [--workers N] [--delay D] [--narrow K] [--oct N] [--max-runs N] [--entry NAME] [--points] [--lean]`
 abbrev pub run_app : App
-run_app = command (codes "run") (run_number_options ++ entry_option ∷ flag (codes "points") ∷ [])
+run_app = command (codes "run") (run_number_options ++ entry_option ∷ flag (codes "points") ∷ flag (codes "lean") ∷ [])
 
 -- `order [--entry NAME] [--peak]`
 abbrev pub order_app : App

@@ -31,6 +31,7 @@ pub record AreNumbersFound (rows : List Row) : Type 0 where
 pub record IsRunFound (rows : List Row) : Type 0 where
   pub numbers : AreNumbersFound rows
   pub points : IsFlagFound (codes "points") rows
+  pub lean : IsFlagFound (codes "lean") rows
 
 pub record IsGenFound (rows : List Row) : Type 0 where
   pub seed : IsRequiredFound (codes "seed") 0 2147483647 rows

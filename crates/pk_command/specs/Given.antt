@@ -45,6 +45,7 @@ run_options rows = record {
   max_runs = number_of (codes "max-runs") 1000000 rows;
   entry = text_of (codes "entry") (codes "main") rows;
   points = is_set (codes "points") rows;
+  lean = is_set (codes "lean") rows;
 }
 
 abbrev pub order_options : List Row → OrderOptions

@@ -16,6 +16,7 @@ RunIsTaken = AsksFor (codes "run" ∷ []) (Run (record {
   max_runs = 1000000;
   entry = codes "main";
   points = false;
+  lean = false;
 }))
 
 -- the word `order` alone asks for the order from `main`, without its peak
@@ -44,9 +45,10 @@ CertIsTaken = AsksFor (codes "cert" ∷ []) (Cert (record {
   entry = codes "main";
 }))
 
--- the word `cert` isn't taken with the option of `run` that it lacks
-abbrev pub CertTakesNoPoints : Type 0
-CertTakesNoPoints = is_taken (codes "cert" ∷ codes "--points" ∷ []) ≡ false
+-- the word `cert` isn't taken with the options of `run` that it lacks
+abbrev pub CertTakesNoFlag : Type 0
+CertTakesNoFlag = (is_taken (codes "cert" ∷ codes "--points" ∷ []) ≡ false)
+    × (is_taken (codes "cert" ∷ codes "--lean" ∷ []) ≡ false)
 
 -- the word `check` alone asks for a check
 abbrev pub CheckIsTaken : Type 0

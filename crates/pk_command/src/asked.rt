@@ -19,6 +19,8 @@ pub struct RunOptions {
     pub entry: Name,
     /// Whether every point is reported.
     pub points: bool,
+    /// Whether what is known at a point is let go of as soon as nothing reads it any more.
+    pub lean: bool,
 }
 
 /// The options of `order`.
@@ -41,7 +43,7 @@ pub struct GenOptions {
     pub workers: u32,
 }
 
-/// The options of `cert`: those of `run`, but for `--points`.
+/// The options of `cert`: those of `run`, but for `--points` and `--lean`.
 #[derive(Drop)]
 pub struct CertOptions {
     /// How many threads iterate, from 1 to 64.

@@ -78,6 +78,15 @@ fn points<'a>(alloc: Global) -> Arg<'a>
         .action(ArgAction::SetTrue)
 }
 
+fn lean<'a>(alloc: Global) -> Arg<'a>
+    ensures rule { rule_of result ≡ flag (codes "lean") }
+    ensures local { result.global ≡ false }
+{
+    Arg::new(alloc, "lean")
+        .long("lean")
+        .action(ArgAction::SetTrue)
+}
+
 fn peak<'a>(alloc: Global) -> Arg<'a>
     ensures rule { rule_of result ≡ flag (codes "peak") }
     ensures local { result.global ≡ false }
@@ -145,7 +154,8 @@ fn run_command<'a>(alloc: Global) -> Result<Command<'a>, AllocError>
     ensures { IfOk result (IsCommand run_app) }
 {
     let run = with(run_numbers(alloc, "run"), entry(alloc));
-    with(run, points(alloc))
+    let run = with(run, points(alloc));
+    with(run, lean(alloc))
 }
 
 fn order_command<'a>(alloc: Global) -> Result<Command<'a>, AllocError>

@@ -1,6 +1,6 @@
 // Laws of the command line.
 
-ghost use Rattle.pk_command.specs.Laws.{CertIsTaken, CertTakesNoPoints, CheckIsTaken, CheckTakesNoOct, GenIsTaken, GenNeedsOptions, OneCommand, OrderIsTaken, RunIsTaken, TakenAsks};
+ghost use Rattle.pk_command.specs.Laws.{CertIsTaken, CertTakesNoFlag, CheckIsTaken, CheckTakesNoOct, GenIsTaken, GenNeedsOptions, OneCommand, OrderIsTaken, RunIsTaken, TakenAsks};
 
 /// The word `run` alone asks for a run with every default.
 pub fn run_is_taken()
@@ -27,9 +27,9 @@ pub fn cert_is_taken()
     ensures { CertIsTaken }
 {}
 
-/// The word `cert` isn't taken with `--points`, which `run` has.
-pub fn cert_takes_no_points()
-    ensures { CertTakesNoPoints }
+/// The word `cert` isn't taken with `--points` or `--lean`, which `run` has.
+pub fn cert_takes_no_flag()
+    ensures { CertTakesNoFlag }
 {}
 
 /// The word `check` alone asks for a check.

@@ -94,7 +94,7 @@ fn cert_options(alloc: Global, found: &ArgMatches<'_>) -> Result<CertOptions, Al
     })
 }
 
-// `run` has the options of `cert`, and one more.
+// `run` has the options of `cert`, and two more.
 fn run_options(alloc: Global, found: &ArgMatches<'_>) -> Result<RunOptions, AllocError>
     requires { IsRunFound (rows_of (found_of found.now)) }
     ensures { IfOk result (λ options. options ≡ run_options_of (rows_of (found_of found.now))) }
@@ -115,6 +115,7 @@ fn run_options(alloc: Global, found: &ArgMatches<'_>) -> Result<RunOptions, Allo
         max_runs,
         entry,
         points: is_given(found, "points"),
+        lean: is_given(found, "lean"),
     })
 }
 

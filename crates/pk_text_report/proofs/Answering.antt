@@ -17,7 +17,7 @@ use Rattle.pk_status.specs.declared.status.Status.{Status}
 use Rattle.pk_status.specs.declared.status.Status.TheVariants as status
 use Rattle.pk_cert_report.specs.Causes.{IsUnanalysed, OneCause}
 use Rattle.pk_cert_report.specs.Laws.{OneCertificate, OneAnswerOfChecks}
-use Rattle.pk_text_report.specs.Answers.{IsReply, IsTold, IsShort, IsLong, IsStopped, IsEnded, options_of, certified_options, default_options, default_runs, OneAnswer, DifferInWorkers, WorkersTellNothing}
+use Rattle.pk_text_report.specs.Answers.{IsReply, IsTold, IsShort, IsLong, IsStopped, IsEnded, options_of, certified_options, default_options, default_runs, OneAnswer, DifferInMeans, MeansTellNothing}
 
 pub not_taken : (words : List (List ℕ)) (command : Command) → AsksFor words command → is_taken words ≡ false → ⊥
 not_taken words command asks refused = let taken = asked_taken words command asks in cc
@@ -134,9 +134,9 @@ one_answer one laws words text s t a b (inr x) (inl y) = absurd (not_taken words
 one_answer one laws words text s t a b (inr x) (inr y) =
     one_reply laws y.command text s t a b (subst (λ (c : Command). IsReply c text s a) (one words x.command y.command x.asked y.asked) x.reply) y.reply
 
--- ---- workers
+-- ---- means
 
-module _ (o p : RunOptions) (d : DifferInWorkers o p) where
+module _ (o p : RunOptions) (d : DifferInMeans o p) where
   same_options : options_of o ≡ options_of p
   same_options =
       ap (λ (n : ℕ). let r : Options = record { delay = n; narrow = o.narrow; oct = o.oct } in r) d.delay
@@ -180,7 +180,7 @@ module _ (o p : RunOptions) (d : DifferInWorkers o p) where
   other_reply text (status.WriteFault sent) a x = absurd x
   other_reply text status.Memory a x = absurd x
 
-pub workers_nothing : OneCommand → WorkersTellNothing
-workers_nothing one words other text o p s bytes asks asks' d (inl x) = absurd (not_taken words (Run o) asks x.refused)
-workers_nothing one words other text o p s bytes asks asks' d (inr x) =
+pub means_nothing : OneCommand → MeansTellNothing
+means_nothing one words other text o p s bytes asks asks' d (inl x) = absurd (not_taken words (Run o) asks x.refused)
+means_nothing one words other text o p s bytes asks asks' d (inr x) =
     inr (record { command = Run p; asked = asks'; reply = other_reply o p d text s bytes (subst (λ (c : Command). IsReply c text s bytes) (one words x.command (Run o) x.asked asks) x.reply) })

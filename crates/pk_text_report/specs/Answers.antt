@@ -174,8 +174,8 @@ abbrev pub OneAnswer : Type 0
 OneAnswer = (words : List (List ℕ)) (text : List ℕ) (s t : Status) (a b : List ℕ) →
     IsAnswer words text s a → IsAnswer words text t b → (s ≡ t) × (a ≡ b)
 
--- two runs asked for, alike but for the number of workers
-pub record DifferInWorkers (a b : RunOptions) : Type 0 where
+-- two runs asked for, alike but for the means: how many workers there are, and what is let go of
+pub record DifferInMeans (a b : RunOptions) : Type 0 where
   pub delay : a.delay ≡ b.delay
   pub narrow : a.narrow ≡ b.narrow
   pub oct : a.oct ≡ b.oct
@@ -183,8 +183,8 @@ pub record DifferInWorkers (a b : RunOptions) : Type 0 where
   pub entry : a.entry ≡ b.entry
   pub points : a.points ≡ b.points
 
--- words that differ in the number of workers alone have the same answers
-abbrev pub WorkersTellNothing : Type 0
-WorkersTellNothing = (words other : List (List ℕ)) (text : List ℕ) (o p : RunOptions) (s : Status) (bytes : List ℕ) →
-    AsksFor words (Run o) → AsksFor other (Run p) → DifferInWorkers o p → IsAnswer words text s bytes →
+-- words that differ in the means alone have the same answers
+abbrev pub MeansTellNothing : Type 0
+MeansTellNothing = (words other : List (List ℕ)) (text : List ℕ) (o p : RunOptions) (s : Status) (bytes : List ℕ) →
+    AsksFor words (Run o) → AsksFor other (Run p) → DifferInMeans o p → IsAnswer words text s bytes →
     IsAnswer other text s bytes

@@ -13,6 +13,7 @@ use pk_cert_report::{certificate_of_text, check};
 use pk_command::{CertOptions, Command, GenOptions, OrderOptions, RunOptions};
 use pk_graph::Graph;
 use pk_graph_report::{order_of, report_of, summary_of};
+use pk_lean_report::lean_report;
 use pk_solver::{IterationOptions, Options, SolverError, states};
 use pk_status::Status;
 use pk_text_graph::{graph_of_text, graphs_are_few};
@@ -94,8 +95,8 @@ fn line_of(text: Vec<u8>) -> Result<Vec<u8>, AllocError>
     Ok(line)
 }
 
-// The report on a graph, of every point or of its heads, and its number of unknown verdicts.
-fn graph_report<R: Threads + Wait + Sync, G: Gate + Sync>(
+// The report on a graph, of every point or of its heads, and its number of unknown verdicts, by the states of all points.
+fn whole_report<R: Threads + Wait + Sync, G: Gate + Sync>(
     rt: &R,
     alloc: Global,
     gate: &G,
@@ -119,6 +120,29 @@ fn graph_report<R: Threads + Wait + Sync, G: Gate + Sync>(
         &solution.states,
         all,
     )?)
+}
+
+// The same, where it is asked for by cells that are let go of.
+fn graph_report<R: Threads + Wait + Sync, G: Gate + Sync>(
+    rt: &R,
+    alloc: Global,
+    gate: &G,
+    graph: &Graph,
+    iteration: &IterationOptions,
+    all: bool,
+    lean: bool,
+) -> Result<(Vec<u8>, usize), SolverError>
+    requires few { length (graph_view graph.now).points ≤ most_points }
+    requires range { AreInRange iteration.now }
+    ensures ok { IfOk result (λ r.
+        IsReport (graph_view graph.now) iteration.now.analysis iteration.now.max_runs all r.1 r.0.items) }
+    ensures err { IfErr result (IsCause (graph_view graph.now) iteration.now.analysis iteration.now.max_runs) }
+{
+    if lean {
+        lean_report(rt, alloc, gate, graph, iteration, all)
+    } else {
+        whole_report(rt, alloc, gate, graph, iteration, all)
+    }
 }
 
 // The summary of a made text of `text_length` bytes, and its number of unknown verdicts.
@@ -166,7 +190,15 @@ fn run_told<R: Threads + Wait + Sync, G: Gate + Sync>(
     graphs_are_few();
     let graph = graph_of_text(alloc, text, options.entry.as_str())?;
     let iteration = iteration_of(options);
-    match graph_report(rt, alloc, gate, &graph, &iteration, options.points) {
+    match graph_report(
+        rt,
+        alloc,
+        gate,
+        &graph,
+        &iteration,
+        options.points,
+        options.lean,
+    ) {
         Ok((bytes, unknown)) => Ok((bytes, unknown as u64)),
         Err(SolverError::RunLimit) => Err(Status::RunLimit {
             max_runs: options.max_runs,

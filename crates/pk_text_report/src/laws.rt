@@ -1,6 +1,6 @@
 // Laws of the answer.
 
-ghost use Rattle.pk_text_report.specs.Answers.{OneAnswer, WorkersTellNothing};
+ghost use Rattle.pk_text_report.specs.Answers.{MeansTellNothing, OneAnswer};
 
 use pk_cert_report::{one_answer_of_checks, one_cause, one_certificate};
 use pk_command::one_command;
@@ -19,9 +19,9 @@ pub fn answer_law()
     one_answer_of_checks();
 }
 
-/// Words that differ in the number of workers alone have the same answers.
-pub fn workers_law()
-    ensures { WorkersTellNothing }
+/// Words that differ in the number of workers and in whether cells are let go of have the same answers.
+pub fn means_law()
+    ensures { MeansTellNothing }
 {
     one_command();
 }

@@ -5,4 +5,4 @@ mod answers;
 mod laws;
 
 pub use answers::told;
-pub use laws::{answer_law, workers_law};
+pub use laws::{answer_law, means_law};

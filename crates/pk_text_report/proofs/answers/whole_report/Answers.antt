@@ -1,6 +1,6 @@
 use Rattle.pk_graph.specs.Shown.{graph_view}
 use Rattle.pk_graph_report.proofs.Reporting.{report_so}
-use Rattle.pk_text_report.proofs.answers.graph_report.Goals as goal
+use Rattle.pk_text_report.proofs.answers.whole_report.Goals as goal
 
 pub returns-clause-ok : goal.returns-clause-ok
 returns-clause-ok g c =
