@@ -9,10 +9,13 @@ use pk_cert_laws::{checked_cells_hold_runs, read_cells_hold_states};
 use pk_computed_texts::texts_computed_is_evaluated;
 use pk_folded_texts::texts_computed_accesses_are_evaluated;
 use pk_front::way_is_determined;
+use pk_loop_texts::turns_of_texts_are_apart;
 use pk_sound::{bounds_hold, faults_are_unknown, result_holds_runs, verdicts_hold};
 use pk_text_graph::graphs_are_well_made;
 use pk_type_laws::units_are_marked;
-use pk_visits_laws::{graphs_have_program_visits, points_share_accesses, programs_are_never_stuck};
+use pk_visits_laws::{
+    graphs_have_program_visits, points_share_accesses, programs_are_never_stuck, turns_are_followed,
+};
 use pk_welltyped_texts::texts_are_well_typed;
 
 /// The states that a report tells of a graph hold each of its runs, and the verdicts are right.
@@ -41,7 +44,7 @@ pub fn checked_cells_are_true()
 }
 
 /// States that hold each run of a text's graph hold each visit of each run of the program, and each fault is at an access whose verdict by them is unknown. No two accesses are of one path, place and kind,
-/// and what is told unreachable no run computes.
+/// what is told unreachable no run computes, and what is told of where a loop begins again is true of each of its turns.
 pub fn true_states_are_true_of_programs()
     ensures { TrueStatesAreTrueOfPrograms }
 {
@@ -54,6 +57,8 @@ pub fn true_states_are_true_of_programs()
     accesses_are_apart();
     texts_computed_is_evaluated();
     texts_computed_accesses_are_evaluated();
+    turns_are_followed();
+    turns_of_texts_are_apart();
 }
 
 /// So do those of a report.

@@ -6,6 +6,7 @@ pub mod Runs
 pub mod Computes
 pub mod Starts
 pub mod Visits
+pub mod Turns
 pub mod Names
 pub mod Rows
 pub mod Forms

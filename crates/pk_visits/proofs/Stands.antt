@@ -36,6 +36,7 @@ use Rattle.pk_meaning.specs.Programs.{Program, function_number, function_of, blo
 use Rattle.pk_meaning.specs.Work as work
 use Rattle.pk_meaning.specs.Work.{Place, Loop, While, DoWhile, For, Way, Onward, Refused, Lost, Caller, Nobody, Path, Ahead, Rest, Join, Again, Close, End, Work, Go, Do, Declare, Perform, Evaluate, Test, Keep, Branch, Apply, Operate, Convert, Settle, Truth, Drop, Assign, Put, Update, Advance, Fetch, Reload, StoreKept, Renew, Renewed, Replace, Fill, Item, Claim, Pass, Bind, Enter, Leave, Return, Turn, Back, Choose}
 use Rattle.pk_meaning.specs.Steps.{Config, place, body_place}
+use Rattle.pk_visits.specs.Turns.{TurnPoint, turning}
 use Rattle.pk_visits.proofs.Settled.Trees.{Final, AreAllSettled, Settles, SettleAll, LoopSettles}
 use Rattle.pk_visits.proofs.Slots.{Slot, own, temporary, slots, Draft, SlotTree, Instr, Edge, edge, Memory, memory, Among, label_at, region_at, Scoping, Extends}
 
@@ -53,6 +54,8 @@ pub record Whole : Type 1 where
   pub objects : ℕ → ℕ
   pub numbers : (path object : ℕ) → ℕ
   pub spans : ℕ → ℕ
+  -- where a path's loops begin again
+  pub turns : (path : ℕ) → List TurnPoint
   -- what a run came to on a path: expressions to evaluate, with the work behind them; elements to read with an operator
   pub begun : ℕ → ValueTree → Work → Type 0
   pub read : ℕ → Pos → Type 0
@@ -70,7 +73,7 @@ context_of g k = record {
 
 -- what is known in the end of a path
 abbrev pub final : Whole → ℕ → Final
-final g k = record { items = (block_of g.program k).items; objects = g.objects k; numbers = g.numbers k; labels = g.labels }
+final g k = record { items = (block_of g.program k).items; objects = g.objects k; numbers = g.numbers k; labels = g.labels; turns = g.turns k }
 
 -- the point is at the path's place
 abbrev pub ShowsAt : Whole → ℕ → ℕ → Place → Type 0
@@ -362,6 +365,7 @@ pub record Loops (g : Whole) (k : ℕ) (h : Place) (x : Exits) (l : Loop) (p c e
   pub settled : LoopSettles (final g k) (context_of g k) l x begin c e draft
   pub calm : AreCalm draft.variables hs
   pub heads : ShowsAt g p k h
+  pub told : Among (turning h.at p) (g.turns k)
   pub begins : ShowsAt g begin k h
   pub continues : ShowsAt g c k h
 

@@ -1,3 +1,5 @@
 pub mod GraphVisits
+pub mod Turns
+pub mod Turning
 pub mod SameVisits
 pub mod NeverStuck

@@ -12,7 +12,8 @@ use Rattle.pk_lower.specs.Paths.{path_of}
 use Rattle.pk_welltyped.specs.WellTyped.{IsUnit}
 use Rattle.pk_welltyped.specs.Marks.{AreMarked}
 use Rattle.pk_meaning.specs.Programs.{Program}
-use Rattle.pk_visits.proofs.Slots.{Slot, region_at}
+use Rattle.pk_visits.specs.Turns.{program_turns}
+use Rattle.pk_visits.proofs.Slots.{Slot, slots, region_at}
 use Rattle.pk_visits.proofs.Stands.{Whole, Proper, BodiesStand}
 use Rattle.pk_visits.proofs.Numbered.Stores.{Naming}
 use Rattle.pk_visits.proofs.Numbered.Visits.{IsFollowed}
@@ -36,6 +37,8 @@ pub record IsSet (u : UnitTree) (paths : List CallPath) : Type 1 where
   pub bodies : BodiesStand whole
   pub some : 0 < length whole.program.paths
   pub entry_at : (region_at whole.regions 0).at ≡ entry_point
+  pub numbers : draft ≡ by_numbers u paths
+  pub turns : (k : ℕ) → whole.turns k ≡ program_turns slots u paths k
 
 pub unit_set : PathsAreAll → (u : UnitTree) (name : List ℕ) (paths : List CallPath) → IsUnit u → AreMarked u → HasPaths u name paths → IsSet u paths
 unit_set law u name paths unit marked has =
@@ -57,4 +60,6 @@ unit_set law u name paths unit marked has =
       bodies = stand.bodies;
       some = stand.some;
       entry_at = stand.entry;
+      numbers = refl;
+      turns = λ k. refl;
     }

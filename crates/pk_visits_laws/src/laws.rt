@@ -4,6 +4,7 @@ ghost use Rattle.pk_visits.specs.SameVisits.{ProgramsAreFollowed};
 ghost use Rattle.pk_visits.specs.NeverStuck.{ProgramsAreNeverStuck};
 ghost use Rattle.pk_visits_laws.specs.Ways.OneWay.{PointsHaveOneWay, PointsShareAccesses};
 ghost use Rattle.pk_visits.specs.SameVisits.{GraphsHaveProgramVisits};
+ghost use Rattle.pk_visits.specs.Turning.{TurnsAreFollowed};
 
 use pk_calls::paths_are_all;
 
@@ -41,4 +42,11 @@ pub fn graphs_have_program_visits()
 {
     paths_are_all();
     programs_are_followed();
+}
+
+/// Where a run of a program begins a turn of a loop, a run of its graph with the same visits is where that loop begins again.
+pub fn turns_are_followed()
+    ensures { TurnsAreFollowed }
+{
+    paths_are_all();
 }

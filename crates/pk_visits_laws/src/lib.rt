@@ -5,5 +5,5 @@ mod laws;
 
 pub use laws::{
     graphs_have_program_visits, points_have_one_way, points_share_accesses, programs_are_followed,
-    programs_are_never_stuck,
+    programs_are_never_stuck, turns_are_followed,
 };

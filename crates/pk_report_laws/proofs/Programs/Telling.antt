@@ -25,8 +25,11 @@ use Rattle.pk_meaning.specs.Programs.{Program}
 use Rattle.pk_meaning.specs.Runs.{Visit}
 use Rattle.pk_visits.specs.GraphVisits.{GraphRuns, ends, steps, is_visit, visit_at, visits_if}
 use Rattle.pk_visits.specs.NeverStuck.{IsNeverStuck}
+use Rattle.pk_loop_texts.specs.Laws.{BeginsAtOne}
+use Rattle.pk_visits.specs.Turns.{TurnPoint}
+use Rattle.pk_visits.specs.Turning.{TurnsAreAt, graph_turns}
 use Rattle.pk_visits.specs.SameVisits.{GraphVisits, HaveSameVisits, FailsAt, EndsAt, IsInside}
-use Rattle.pk_report_laws.specs.Programs.ToldOfPrograms.{IsToldOf, IsToldVisit, AreToldAlong, ends as no_more, seen, passed, AreToldInOrder, IsToldFault, IsToldEnd, IsTrueOfProgram}
+use Rattle.pk_report_laws.specs.Programs.ToldOfPrograms.{IsToldOf, IsToldVisit, AreToldAlong, ends as no_more, seen, passed, AreToldInOrder, IsToldFault, IsToldEnd, TurnsAreTold, IsTrueOfProgram}
 use Rattle.pk_verdict.specs.Verdicts.{verdict_of}
 use Rattle.pk_sound.proofs.Accesses.{IsAccessAt, in_instr}
 use Rattle.pk_visits_laws.specs.Ways.OneWay.{SharesAccesses}
@@ -141,9 +144,16 @@ module _ (g : GraphOf) (states : List Stated) (made : IsGraph g) (t : AreTrueOf 
       let all = reached 0 x.first x.others x.point x.last x.runs first in
       (subst (All (IsToldVisit g states)) (sym x.visits_are) (All-cons (IsToldVisit g states) (visit_at g 0 x.first) x.others (told 0 x.first first) all.0), ended x.point x.last end all.1 x.ends)
 
+  -- what is told where a turn begins
+  turned : (p : Program) (turns : ℕ → List TurnPoint) → TurnsAreAt p g turns → TurnsAreTold p g states turns
+  turned p turns law choice first last visits here behind loop a starts goes is =
+      let t = law choice first last visits here behind loop a starts goes is in
+      let all = reached 0 t.2.first visits t.0 t.2.store t.2.runs (begins t.2.begins) in
+      (t.0, t.1, subst (IsToldOf g states t.0) t.2.visit (told_of t.0 t.2.store all.1))
+
 pub true_of : (g : GraphOf) (states : List Stated) (p : Program) → IsGraph g → AreTrueOf g states → ((v : ℕ) → SharesAccesses v (point_at g v).edges) → HaveSameVisits p g → IsNeverStuck p → NoneTwice (accesses_of g) → OperationsAreEvaluated p g
-    → AccessesThemselvesAreEvaluated p g → IsTrueOfProgram p g states
-true_of g states p made t share same on once all themselves = record {
+    → AccessesThemselvesAreEvaluated p g → TurnsAreAt p g (graph_turns p.unit p.paths) → ((path : ℕ) → BeginsAtOne (graph_turns p.unit p.paths path)) → IsTrueOfProgram p g states
+true_of g states p made t share same on once all themselves turns one = record {
   runs = same;
   goes_on = on;
   points = t;
@@ -153,4 +163,6 @@ true_of g states p made t share same on once all themselves = record {
   lines = once;
   computed = reached_by p g states t all;
   unreachable = none_computes p g states t themselves;
+  turns = turned g states made t share p (graph_turns p.unit p.paths) turns;
+  one_point = one;
 }

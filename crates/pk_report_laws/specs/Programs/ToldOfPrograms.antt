@@ -20,10 +20,15 @@ use Rattle.pk_graph_report.specs.Reported.{verdict_at}
 use Rattle.pk_solver.specs.Solved.{AreStates}
 use Rattle.pk_sound.specs.Bounds.{IsDecidedWithin}
 use Rattle.pk_meaning.specs.Programs.{Program}
-use Rattle.pk_meaning.specs.Runs.{Known, Visit}
+use Rattle.pk_meaning.specs.Work.{Place, Loop, Ahead, Turn}
+use Rattle.pk_meaning.specs.Steps.{Config}
+use Rattle.pk_meaning.specs.Runs.{Known, Visit, visit_of, start, Runs}
 use Rattle.pk_visits.specs.GraphVisits.{Begins, is_visit, visit_at}
 use Rattle.pk_visits.specs.SameVisits.{ProgramVisits, EndsAt, HaveSameVisits}
 use Rattle.pk_visits.specs.NeverStuck.{IsNeverStuck}
+use Rattle.pk_loop_texts.specs.Laws.{BeginsAtOne}
+use Rattle.pk_visits.specs.Turns.{TurnPoint, turning}
+use Rattle.pk_visits.specs.Turning.{graph_turns}
 use Rattle.pk_access_laws.specs.Laws.{NoneTwice}
 use Rattle.pk_report_laws.specs.Runs.True.{AreTrueOf}
 use Rattle.pk_report_laws.specs.Programs.Reached.{OperationsAreReached, UnreachableIsNotComputed}
@@ -119,11 +124,21 @@ abbrev pub IsToldEnd : GraphOf → List Stated → Option Failure → Type 0
 IsToldEnd g states None = Unit {0}
 IsToldEnd g states (Some f) = IsToldFault g states f
 
+-- ---- turns
+
+-- Wherever a run begins a turn of a loop, what is told of a point of that loop's path and place is true: the point at which the loop begins again.
+abbrev pub TurnsAreTold : Program → GraphOf → List Stated → (turns : ℕ → List TurnPoint) → Type 0
+TurnsAreTold p g states turns =
+    (choice : Numbers) (first last : Config) (visits : List Visit) (here behind : Place) (loop : Loop) (a : Ahead) →
+    start p choice ≡ Some first → Runs p first visits last → last.work ≡ Turn here loop behind a →
+    (point : ℕ) × Contains (turns last.path) (turning here.at point) × IsToldOf g states point (visit_of p last)
+
 -- ---- runs
 
 -- The program and its graph have the same visits, no run of the program is stuck, and no run of the graph leaves what is told of the points that it comes to.
 -- So each visit of each run is told, and the fault at its end if there is one. Several points can have one place: the run of the graph tells which of them a visit is at.
 -- No two lines of accesses are of one path, place and kind; what a run computes has a line that isn't unreachable, and what is told unreachable no run computes.
+-- Each loop of a path begins again at one point at most, and what is told of that point is true of each turn.
 pub record IsTrueOfProgram (p : Program) (g : GraphOf) (states : List Stated) : Type 0 where
   pub runs : HaveSameVisits p g
   pub goes_on : IsNeverStuck p
@@ -136,6 +151,8 @@ pub record IsTrueOfProgram (p : Program) (g : GraphOf) (states : List Stated) : 
   pub lines : NoneTwice (accesses_of g)
   pub computed : OperationsAreReached p g states
   pub unreachable : UnreachableIsNotComputed p g states
+  pub turns : TurnsAreTold p g states (graph_turns p.unit p.paths)
+  pub one_point : (path : ℕ) → BeginsAtOne (graph_turns p.unit p.paths path)
 
 -- the program that a text is, with its call paths
 abbrev pub program_of : {text entry : List ℕ} {g : GraphOf} → HasGraph text entry g → Program

@@ -45,14 +45,14 @@ for_by f p m n t u a b s r x first test third body d =
 
 -- ---- switches
 
-tested_by : {V W : Type 0} (f : V → W) (t : IntType) (v : Operand V) (z : Ways W) → WaysBy f v.ways z → (d : DraftOf V) → statements.tested t (beside v z) (draft_by f d) ≡ given_by f (statements.tested t v d)
+pub tested_by : {V W : Type 0} (f : V → W) (t : IntType) (v : Operand V) (z : Ways W) → WaysBy f v.ways z → (d : DraftOf V) → statements.tested t (beside v z) (draft_by f d) ≡ given_by f (statements.tested t v d)
 tested_by f t v z h d =
     let r = v.ways.value d in
     ap (λ k. rows.held Strong (converted_shape v.int_type t v.shape) t (rows.convert_after v.int_type t k)) (h.value d)
     ∙ ap (λ e. rows.held Strong (converted_shape v.int_type t v.shape) t (e, draft_by f r.1)) (conversion_by f v.int_type t r.0)
     ∙ held_by f Strong (converted_shape v.int_type t v.shape) t (rows.convert_after v.int_type t r)
 
-switch_begun_by : {V W : Type 0} (f : V → W) (s : Site) (t : IntType) (zs : List ℤ) (b : Bool) (k : Given V) → statements.switch_begun s t zs b (given_by f k) ≡ draft_by f (statements.switch_begun s t zs b k)
+pub switch_begun_by : {V W : Type 0} (f : V → W) (s : Site) (t : IntType) (zs : List ℤ) (b : Bool) (k : Given V) → statements.switch_begun s t zs b (given_by f k) ≡ draft_by f (statements.switch_begun s t zs b k)
 switch_begun_by {V = V} {W = W} f s t zs b k =
     let e = k.1.points in
     let n = length zs in
@@ -93,11 +93,11 @@ performed_if_by : (V W : Type 0) (f : V → W) (c : Context) (e : Option EffectT
 performed_if_by V W f c None d = refl
 performed_if_by V W f c (Some e) d = performed_by V W f c e d
 
-for_start_by : (V W : Type 0) (f : V → W) (c : Context) (s : ForStartTree) → Works f (statements.for_start c s) (statements.for_start c s)
+pub for_start_by : (V W : Type 0) (f : V → W) (c : Context) (s : ForStartTree) → Works f (statements.for_start c s) (statements.for_start c s)
 for_start_by V W f c (tree.declarations xs) d = all_declared_by V W f c xs d
 for_start_by V W f c (tree.expression e) d = performed_if_by V W f c e d
 
-for_test_by : (V W : Type 0) (f : V → W) (c : Context) (e : Option ValueTree) (p q : ℕ) → Works f (statements.for_test c e p q) (statements.for_test c e p q)
+pub for_test_by : (V W : Type 0) (f : V → W) (c : Context) (e : Option ValueTree) (p q : ℕ) → Works f (statements.for_test c e p q) (statements.for_test c e p q)
 for_test_by V W f c None p q d = link_by f Skip p d
 for_test_by V W f c (Some e) p q d = (ways_by V W f c e).choice p q d
 

@@ -10,7 +10,7 @@ use Rattle.pk_lower_statement.specs.Statements.{inside}
 use Rattle.pk_visits.proofs.Numbered.Names.{link_by, go_by}
 use Rattle.pk_visits.proofs.Numbered.Rows.{Works, WaysBy}
 
-branching_by : {V W : Type 0} (f : V → W) (p : Pos) (c : Ways V) (z : Ways W) → WaysBy f c z → Works f (statements.branching p c) (statements.branching p z)
+pub branching_by : {V W : Type 0} (f : V → W) (p : Pos) (c : Ways V) (z : Ways W) → WaysBy f c z → Works f (statements.branching p c) (statements.branching p z)
 branching_by f p c z h d = ap (at d.points) (h.choice d.points (d.points + 1) (fresh 2 (on p d)))
 
 abbrev skip_at : {W : Type 0} → (q p : ℕ) → DraftOf W → DraftOf W

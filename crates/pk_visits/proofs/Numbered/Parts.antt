@@ -36,13 +36,13 @@ with_result_by : {V W : Type 0} (f : V → W) (c : Context) (r : Option IntType)
 with_result_by f c None d = refl
 with_result_by f c (Some t) d = refl
 
-begun_by : (V W : Type 0) (f : V → W) (c : Context) (g : FunctionTree) (b : BodyTree) (from : Option Caller) (r : Region) → Works f (parts.begun c g b from r) (parts.begun c g b from r)
-begun_by V W f c g b from r d =
+pub part_begun_by : (V W : Type 0) (f : V → W) (c : Context) (g : FunctionTree) (b : BodyTree) (from : Option Caller) (r : Region) → Works f (parts.begun c g b from r) (parts.begun c g b from r)
+part_begun_by V W f c g b from r d =
     let here : Label = record { at = b.opened; path = c.path; scope = b.visible } in
     let e = begun_at r here (length c.locals + 1) d in
     ap (parts.with_result c g.returns) (all_introduced_by V W f c from 0 g.parameters e) ∙ with_result_by f c g.returns (parts.all_introduced c from 0 g.parameters e)
 
-placed_entry_by : {V W : Type 0} (f : V → W) (from : Option Caller) → Works f (parts.placed_entry from) (parts.placed_entry from)
+pub placed_entry_by : {V W : Type 0} (f : V → W) (from : Option Caller) → Works f (parts.placed_entry from) (parts.placed_entry from)
 placed_entry_by f None d = refl
 placed_entry_by f (Some c) d = refl
 
@@ -75,7 +75,7 @@ part_of_by : (V W : Type 0) (f : V → W) (c : Context) (g : FunctionTree) (b : 
 part_of_by V W f c g None from r d = refl
 part_of_by V W f c g (Some b) from r d =
     let e = parts.begun c g b from r d in
-    ap (λ z. body_draft c g b (parts.placed_entry from z)) (begun_by V W f c g b from r d)
+    ap (λ z. body_draft c g b (parts.placed_entry from z)) (part_begun_by V W f c g b from r d)
     ∙ ap (body_draft c g b) (placed_entry_by f from e)
     ∙ body_draft_by V W f c g b (parts.placed_entry from e)
 

@@ -29,7 +29,8 @@ use Rattle.pk_meaning.specs.Programs.{block_of}
 use Rattle.pk_meaning.specs.Work.{Place}
 use Rattle.pk_meaning.specs.Steps.{Mark, labelled, numbered, otherwise, is_label, is_case, is_default}
 use Rattle.pk_visits.proofs.Slots.{Slot, Draft, Keeps, Grows, Among, label_at, object_at}
-use Rattle.pk_visits.proofs.Settled.Trees.{Final, IsNext, IsSettled, AreAllSettled, IsSettledStart, Settles, SettleAll, mark_point}
+use Rattle.pk_visits.specs.Turns.{turns_in, turns_in_items}
+use Rattle.pk_visits.proofs.Settled.Trees.{Final, AllTurn, front_turn, back_turn, IsNext, IsSettled, AreAllSettled, IsSettledStart, Settles, SettleAll, mark_point}
 use Rattle.pk_visits.proofs.Stands.{Whole, Stage, context_of, final, around}
 use Rattle.pk_visits.proofs.Grows.Rows.{WaysGrow, grows_trans, held_grows}
 use Rattle.pk_visits.proofs.Grows.Expressions.{AllCalled, values, front_called, back_called}
@@ -259,43 +260,43 @@ jumps_in_switch : (o : Final) (x : Exits) (m : Marks) (bs cs b : Bool) (e n : �
 jumps_in_switch o x m bs cs b e n low j = record { broken = λ h f. absurd (omega (arith, low, f)); continued = j.continued; labels = j.labels }
 
 mutual
-  unfolding lowered lowered_items HasTargets HaveTargets IsStatement AreItems calls_in_statement calls_in_items times times_in objects_in objects_in_items HasCases HaveCases Settles SettleAll
+  unfolding lowered lowered_items HasTargets HaveTargets IsStatement AreItems calls_in_statement calls_in_items times times_in objects_in objects_in_items HasCases HaveCases Settles SettleAll turns_in turns_in_items
 
   pub settles : (s : StatementTree) (g : Whole) (o : Final) (c : Context) (a : Around) (m : Marks) (x : Exits) (d : Draft) → IsStatement a m s → HasCases s → (bs cs : Bool) → HasTargets bs cs s → Jumping o x m bs cs → AllCalled (Sized g) c (calls_in_statement s)
-      → Known g o x m (λ b. times b s) a.objects (objects_in s) d (lowered c s x d) → Settles o c s x d
-  settles (tree.block q is) g o c a m x d fits cases bs cs ts js called h = settle_all is g o c a m x d fits cases bs cs ts js called h
-  settles (tree.empty q) g o c a m x d fits cases bs cs ts js called h = tt
-  settles (tree.effect q e) g o c a m x d fits cases bs cs ts js called h = tt
-  settles (tree.label q l s) g o c a m x d fits cases bs cs ts js called h =
+      → Known g o x m (λ b. times b s) a.objects (objects_in s) d (lowered c s x d) → AllTurn o (turns_in c s x d) → Settles o c s x d
+  settles (tree.block q is) g o c a m x d fits cases bs cs ts js called h tp = settle_all is g o c a m x d fits cases bs cs ts js called h tp
+  settles (tree.empty q) g o c a m x d fits cases bs cs ts js called h tp = tt
+  settles (tree.effect q e) g o c a m x d fits cases bs cs ts js called h tp = tt
+  settles (tree.label q l s) g o c a m x d fits cases bs cs ts js called h tp =
       let b = come (x.labels + l) (on q d) in
       let e = lowered c s x b in (
         marked_here g o x m (λ b. one_if (is_label b l) + times b s) (λ b. times b s) a.objects (objects_in s) q d e (labelled l) h fits.0 (let z = label_once l (times (labelled l) s) in omega (arith, z)) (statement_spares g c a m s x d.points fits.1 h.below called b),
         settles s g o c a m x b fits.1 cases bs cs ts js called
-            (rest_known g o x m (λ b. one_if (is_label b l) + times b s) (λ b. times b s) a.objects (objects_in s) a.objects (objects_in s) d b e h (λ b. omega arith) (omega arith) (omega arith) (forth_here g d.points d.regions) (statement_forth g c a m s x d.points fits.1 h.below called b).points),
+            (rest_known g o x m (λ b. one_if (is_label b l) + times b s) (λ b. times b s) a.objects (objects_in s) a.objects (objects_in s) d b e h (λ b. omega arith) (omega arith) (omega arith) (forth_here g d.points d.regions) (statement_forth g c a m s x d.points fits.1 h.below called b).points) tp,
       )
-  settles (tree.case q i s) g o c a m x d fits cases bs cs ts js called h =
+  settles (tree.case q i s) g o c a m x d fits cases bs cs ts js called h tp =
       let b = come (x.cases + i) (on q d) in
       let e = lowered c s x b in (
         marked_here g o x m (λ b. one_if (is_case b i) + times b s) (λ b. times b s) a.objects (objects_in s) q d e (numbered i) h fits.0 (let z = case_once i (times (numbered i) s) in omega (arith, z)) (statement_spares g c a m s x d.points fits.1 h.below called b),
         settles s g o c a m x b fits.1 cases bs cs ts js called
-            (rest_known g o x m (λ b. one_if (is_case b i) + times b s) (λ b. times b s) a.objects (objects_in s) a.objects (objects_in s) d b e h (λ b. omega arith) (omega arith) (omega arith) (forth_here g d.points d.regions) (statement_forth g c a m s x d.points fits.1 h.below called b).points),
+            (rest_known g o x m (λ b. one_if (is_case b i) + times b s) (λ b. times b s) a.objects (objects_in s) a.objects (objects_in s) d b e h (λ b. omega arith) (omega arith) (omega arith) (forth_here g d.points d.regions) (statement_forth g c a m s x d.points fits.1 h.below called b).points) tp,
       )
-  settles (tree.default q s) g o c a m x d fits cases bs cs ts js called h =
+  settles (tree.default q s) g o c a m x d fits cases bs cs ts js called h tp =
       let b = come x.otherwise (on q d) in
       let e = lowered c s x b in (
         marked_here g o x m (λ b. one_if (is_default b) + times b s) (λ b. times b s) a.objects (objects_in s) q d e otherwise h fits.0 (omega arith) (statement_spares g c a m s x d.points fits.1 h.below called b),
         settles s g o c a m x b fits.1 cases bs cs ts js called
-            (rest_known g o x m (λ b. one_if (is_default b) + times b s) (λ b. times b s) a.objects (objects_in s) a.objects (objects_in s) d b e h (λ b. omega arith) (omega arith) (omega arith) (forth_here g d.points d.regions) (statement_forth g c a m s x d.points fits.1 h.below called b).points),
+            (rest_known g o x m (λ b. one_if (is_default b) + times b s) (λ b. times b s) a.objects (objects_in s) a.objects (objects_in s) d b e h (λ b. omega arith) (omega arith) (omega arith) (forth_here g d.points d.regions) (statement_forth g c a m s x d.points fits.1 h.below called b).points) tp,
       )
-  settles (tree.if_then q e s) g o c a m x d fits cases bs cs ts js called h =
+  settles (tree.if_then q e s) g o c a m x d fits cases bs cs ts js called h tp =
       let w = ways c e in
       let f = branching q w d in
       let grow = values (Sized g) c e (front_called (Sized g) c (calls_in e) (calls_in_statement s) called) in
       let called_s = back_called (Sized g) c (calls_in e) (calls_in_statement s) called in
       settles s g o c a m x f fits.1 cases bs cs ts js called_s
       (first_known g o x m (λ b. times b s) (λ b. times b s) (λ b. 0) a.objects (objects_in s) (objects_in s) q w (lowered c s x) (λ r. r) d grow h (λ b. omega arith) (omega arith) (statement_forth g c a m s x d.points fits.1 h.below called_s f).points
-      (nothing_spares g x m (λ b. 0) (a.objects + objects_in s) d.points (at (d.points + 1) (lowered c s x f))))
-  settles (tree.if_else q e s r) g o c a m x d fits cases bs cs ts js called h =
+      (nothing_spares g x m (λ b. 0) (a.objects + objects_in s) d.points (at (d.points + 1) (lowered c s x f)))) tp
+  settles (tree.if_else q e s r) g o c a m x d fits cases bs cs ts js called h tp =
       let n = a.objects in
       let w = ways c e in
       let f = branching q w d in
@@ -308,11 +309,11 @@ mutual
       let second = statement_forth g c (behind (objects_in s) a) m r x d.points fits.2 h.below called_r i in (
         settles s g o c a m x f fits.1 cases.0 bs cs ts.0 js called_s
             (first_known g o x m (λ b. times b s + times b r) (λ b. times b s) (λ b. times b r) n (objects_in s) (objects_in s + objects_in r) q w (lowered c s x) (lowered c r x) d grow h (λ b. omega arith) (omega arith) first.points
-            (statement_spares g c (behind (objects_in s) a) m r x d.points fits.2 h.below called_r i)),
+            (statement_spares g c (behind (objects_in s) a) m r x d.points fits.2 h.below called_r i)) (front_turn o (turns_in c s x f) (turns_in c r x i) tp),
         settles r g o c (behind (objects_in s) a) m x i fits.2 cases.1 bs cs ts.1 js called_r
-            (second_known g o x m (λ b. times b s + times b r) (λ b. times b r) n (objects_in s) (objects_in r) q w (lowered c s x) (lowered c r x) d grow h (λ b. omega arith) first second.points),
+            (second_known g o x m (λ b. times b s + times b r) (λ b. times b r) n (objects_in s) (objects_in r) q w (lowered c s x) (lowered c r x) d grow h (λ b. omega arith) first second.points) (back_turn o (turns_in c s x f) (turns_in c r x i) tp),
       )
-  settles (tree.switch q t e zs b s) g o c a m x d fits cases bs cs ts js called h =
+  settles (tree.switch q t e zs b s) g o c a m x d fits cases bs cs ts js called h tp =
       let u = on q d in
       let called_e = front_called (Sized g) c (calls_in e) (calls_in_statement s) called in
       let called_s = back_called (Sized g) c (calls_in e) (calls_in_statement s) called in
@@ -325,9 +326,9 @@ mutual
         cases.0,
         settles s g o c a k y i fits.2 cases.1 true cs ts (jumps_in_switch o x m bs cs b v.1.points (length zs) (let z = h.left in let w = valued.points in omega (arith, z, w)) js) called_s
             (switch_known g o x m (λ n. times n s) a.objects (objects_in s) (site c q) t zs b d v f h cases.0.each cases.0.default valued
-            (λ below. statement_grown g c a k s y i fits.2 below called_s)),
+            (λ below. statement_grown g c a k s y i fits.2 below called_s)) tp,
       )
-  settles (tree.while q e s) g o c a m x d fits cases bs cs ts js called h =
+  settles (tree.while q e s) g o c a m x d fits cases bs cs ts js called h tp =
       let u = on q d in
       let w = ways c e in
       let grow = values (Sized g) c e (front_called (Sized g) c (calls_in e) (calls_in_statement s) called) in
@@ -335,11 +336,13 @@ mutual
       let y = inside (d.points + 2) d.points x in
       let i = at (d.points + 1) (w.choice (d.points + 1) (d.points + 2) (loop_begun u)) in
       let before = stays_then (on_adds [] Free (Sized g) q d) (stays_then (begun_adds [] Free (Sized g) u) (choice_adds [] Free (Sized g) w grow (d.points + 1) (d.points + 2) (loop_begun u))) in
-      let first = statement_forth g c a m s y d.points fits.1 (below_inside x m d.points (d.points + 2) d.points h.below) called_s i in
-      settles s g o c a m y i fits.1 cases true true ts (jumps_inside o x m bs cs (d.points + 2) d.points (omega (arith, h.left)) h.left js) called_s
-      (known_inside g o x m (λ b. times b s) a.objects (objects_in s) (d.points + 2) d.points i (lowered c s y i)
-      (rest_known g o x m (λ b. times b s) (λ b. times b s) a.objects (objects_in s) a.objects (objects_in s) d i (lowered c s y i) h (λ b. omega arith) (omega arith) (omega arith) (forth g (λ i z r. r) before) first.points))
-  settles (tree.do_while q s e) g o c a m x d fits cases bs cs ts js called h =
+      let first = statement_forth g c a m s y d.points fits.1 (below_inside x m d.points (d.points + 2) d.points h.below) called_s i in (
+        tp.0,
+        settles s g o c a m y i fits.1 cases true true ts (jumps_inside o x m bs cs (d.points + 2) d.points (omega (arith, h.left)) h.left js) called_s
+            (known_inside g o x m (λ b. times b s) a.objects (objects_in s) (d.points + 2) d.points i (lowered c s y i)
+            (rest_known g o x m (λ b. times b s) (λ b. times b s) a.objects (objects_in s) a.objects (objects_in s) d i (lowered c s y i) h (λ b. omega arith) (omega arith) (omega arith) (forth g (λ i z r. r) before) first.points)) tp.1,
+      )
+  settles (tree.do_while q s e) g o c a m x d fits cases bs cs ts js called h tp =
       let u = on q d in
       let w = ways c e in
       let called_s = front_called (Sized g) c (calls_in_statement s) (calls_in e) called in
@@ -349,12 +352,14 @@ mutual
       let f = lowered c s y i in
       let r = go Skip (d.points + 1) f in
       let before = stays_then (on_adds [] Free (Sized g) q d) (begun_adds [] Free (Sized g) u) in
-      let first = statement_forth g c a m s y d.points fits.0 (below_inside x m d.points (d.points + 2) (d.points + 1) h.below) called_s i in
-      settles s g o c a m y i fits.0 cases true true ts (jumps_inside o x m bs cs (d.points + 2) (d.points + 1) (omega (arith, h.left)) (omega (arith, h.left)) js) called_s
-      (known_inside g o x m (λ b. times b s) a.objects (objects_in s) (d.points + 2) (d.points + 1) i f
-      (part_known g o x m (λ b. times b s) (λ b. times b s) (λ b. 0) a.objects (objects_in s) a.objects (objects_in s) d i f (w.choice d.points (d.points + 2) (on q r)) h (λ b. omega arith) (omega arith) (omega arith) (forth g (λ i z r. r) before) first.points
-      (do_spares g x m q w grow (d.points + 1) d.points (d.points + 2) (a.objects + objects_in s) d.points f)))
-  settles (tree.for_loop q start e third s) g o c a m x d fits cases bs cs ts js called h =
+      let first = statement_forth g c a m s y d.points fits.0 (below_inside x m d.points (d.points + 2) (d.points + 1) h.below) called_s i in (
+        tp.0,
+        settles s g o c a m y i fits.0 cases true true ts (jumps_inside o x m bs cs (d.points + 2) (d.points + 1) (omega (arith, h.left)) (omega (arith, h.left)) js) called_s
+            (known_inside g o x m (λ b. times b s) a.objects (objects_in s) (d.points + 2) (d.points + 1) i f
+            (part_known g o x m (λ b. times b s) (λ b. times b s) (λ b. 0) a.objects (objects_in s) a.objects (objects_in s) d i f (w.choice d.points (d.points + 2) (on q r)) h (λ b. omega arith) (omega arith) (omega arith) (forth g (λ i z r. r) before) first.points
+            (do_spares g x m q w grow (d.points + 1) d.points (d.points + 2) (a.objects + objects_in s) d.points f))) tp.1,
+      )
+  settles (tree.for_loop q start e third s) g o c a m x d fits cases bs cs ts js called h tp =
       let n = a.objects in
       let l = objects_at_start start in
       let u = on q d in
@@ -395,17 +400,18 @@ mutual
       let more = starts.slots in
       let last = all.slots in (
         start_settled (Sized g) o c start a d1 fits.0 called_f (λ j low high. let z = h.objects j low (omega (arith, high)) in (z.0, z.1 ∙ kept_object (n + l) j g1 end all high)) (omega (arith, many, more, last)),
-        settles s g o c k m y i fits.3 cases true true ts (jumps_inside o x m bs cs d.points (p + 2) h.left (let z = begin.points in let w = h.left in omega (arith, z, w)) js) called_s (known_inside g o x m (λ b. times b s) (n + l) (objects_in s) d.points (p + 2) i f known),
+        tp.0,
+        settles s g o c k m y i fits.3 cases true true ts (jumps_inside o x m bs cs d.points (p + 2) h.left (let z = begin.points in let w = h.left in omega (arith, z, w)) js) called_s (known_inside g o x m (λ b. times b s) (n + l) (objects_in s) d.points (p + 2) i f known) tp.1,
       )
-  settles (tree.goto q l) g o c a m x d fits cases bs cs ts js called h = js.labels l fits
-  settles (tree.continue q) g o c a m x d fits cases bs cs ts js called h = js.continued ts
-  settles (tree.break q) g o c a m x d fits cases bs cs ts js called h = js.broken ts
-  settles (tree.return q e) g o c a m x d fits cases bs cs ts js called h = tt
+  settles (tree.goto q l) g o c a m x d fits cases bs cs ts js called h tp = js.labels l fits
+  settles (tree.continue q) g o c a m x d fits cases bs cs ts js called h tp = js.continued ts
+  settles (tree.break q) g o c a m x d fits cases bs cs ts js called h tp = js.broken ts
+  settles (tree.return q e) g o c a m x d fits cases bs cs ts js called h tp = tt
 
   pub settle_all : (is : ItemTrees) (g : Whole) (o : Final) (c : Context) (a : Around) (m : Marks) (x : Exits) (d : Draft) → AreItems a m is → HaveCases is → (bs cs : Bool) → HaveTargets bs cs is → Jumping o x m bs cs → AllCalled (Sized g) c (calls_in_items is)
-      → Known g o x m (λ b. times_in b is) a.objects (objects_in_items is) d (lowered_items c is x d) → SettleAll o c is x d
-  settle_all tree.no_items g o c a m x d fits cases bs cs ts js called h = tt
-  settle_all (tree.declared_before v is) g o c a m x d fits cases bs cs ts js called h =
+      → Known g o x m (λ b. times_in b is) a.objects (objects_in_items is) d (lowered_items c is x d) → AllTurn o (turns_in_items c is x d) → SettleAll o c is x d
+  settle_all tree.no_items g o c a m x d fits cases bs cs ts js called h tp = tt
+  settle_all (tree.declared_before v is) g o c a m x d fits cases bs cs ts js called h tp =
       let n = a.objects in
       let e = declared c v d in
       let f = lowered_items c is x e in
@@ -419,9 +425,9 @@ mutual
       let more = rest.slots in (
         next_settled (Sized g) o c a v d f.objects fits.0 called_v (λ i low high. (h.objects i low (omega (arith, high)), kept_object (n + one) i e f rest high, omega (arith, high, many, size, more))),
         settle_all is g o c (behind one a) m x e fits.1 cases bs cs ts js called_is
-            (rest_known g o x m (λ b. times_in b is) (λ b. times_in b is) (n + one) (objects_in_items is) n (one + objects_in_items is) d e f h (λ b. omega arith) (omega arith) (omega arith) (forth g (λ i z y. y) first) rest.points),
+            (rest_known g o x m (λ b. times_in b is) (λ b. times_in b is) (n + one) (objects_in_items is) n (one + objects_in_items is) d e f h (λ b. omega arith) (omega arith) (omega arith) (forth g (λ i z y. y) first) rest.points) tp,
       )
-  settle_all (tree.statement_before s is) g o c a m x d fits cases bs cs ts js called h =
+  settle_all (tree.statement_before s is) g o c a m x d fits cases bs cs ts js called h tp =
       let n = a.objects in
       let e = lowered c s x d in
       let f = lowered_items c is x e in
@@ -431,9 +437,9 @@ mutual
       let rest = block_spares g c (behind (objects_in s) a) m is x d.points fits.1 h.below called_is e in
       let more = rest d.points (λ b is some same. let z = h.below b is in absurd (omega (arith, z, same))) in (
         settles s g o c a m x d fits.0 cases.0 bs cs ts.0 js called_s
-            (part_known g o x m (λ b. times b s + times_in b is) (λ b. times b s) (λ b. times_in b is) n (objects_in s) n (objects_in s + objects_in_items is) d d e f h (λ b. omega arith) (omega arith) (omega arith) (forth_here g d.points d.regions) first.points rest),
+            (part_known g o x m (λ b. times b s + times_in b is) (λ b. times b s) (λ b. times_in b is) n (objects_in s) n (objects_in s + objects_in_items is) d d e f h (λ b. omega arith) (omega arith) (omega arith) (forth_here g d.points d.regions) first.points rest) (front_turn o (turns_in c s x d) (turns_in_items c is x e) tp),
         settle_all is g o c (behind (objects_in s) a) m x e fits.1 cases.1 bs cs ts.1 js called_is
-            (rest_known g o x m (λ b. times b s + times_in b is) (λ b. times_in b is) (n + objects_in s) (objects_in_items is) n (objects_in s + objects_in_items is) d e f h (λ b. omega arith) (omega arith) (omega arith) first more.points),
+            (rest_known g o x m (λ b. times b s + times_in b is) (λ b. times_in b is) (n + objects_in s) (objects_in_items is) n (objects_in s + objects_in_items is) d e f h (λ b. omega arith) (omega arith) (omega arith) first more.points) (back_turn o (turns_in c s x d) (turns_in_items c is x e) tp),
       )
 
 -- ---- bodies
@@ -446,9 +452,9 @@ sized_calls g k (x ∷ xs) spans = (spans x (inl refl), sized_calls g k xs (λ z
 pub settled_body : (g : Whole) (k : ℕ) (h : Place) (x : Exits) (n : ℕ) (m : Marks) (is : ItemTrees) (d : Draft) → AreItems (around g k n) m is → Stage g k h (calls_in_items is) d (lowered_items (context_of g k) is x d)
     → ((b c : Mark) → IsMark m b → IsMark m c → mark_point b x ≡ mark_point c x → b ≡ c) → AreBelow x m d.points → ((b : Mark) → IsMark m b → times_in b is ≤ 1) → HaveCases is → HaveTargets false false is → x.left < d.points → ((l : ℕ) → l < m.labels → times_in (labelled l) (block_of g.program k).items ≡ 1) → n + objects_in_items is ≤ length d.objects
     → ((i : ℕ) → n ≤ i → i < n + objects_in_items is → (i < g.objects k) × (g.numbers k i ≡ object_at (lowered_items (context_of g k) is x d).objects i))
-    → ((b : Mark) → IsMark m b → (times_in b is ≡ 0 → ⊥) → label_at g.labels (mark_point b x) ≡ label_at (lowered_items (context_of g k) is x d).labels (mark_point b x)) → SettleAll (final g k) (context_of g k) is x d
-settled_body g k h x n m is d fits s apart below once cases targets left marked room objects labels =
-    settle_all is g (final g k) c (around g k n) m x d fits cases false false targets (record { broken = λ e. absurd (cc e); continued = λ e. absurd (cc e); labels = marked }) called known where
+    → ((b : Mark) → IsMark m b → (times_in b is ≡ 0 → ⊥) → label_at g.labels (mark_point b x) ≡ label_at (lowered_items (context_of g k) is x d).labels (mark_point b x)) → AllTurn (final g k) (turns_in_items (context_of g k) is x d) → SettleAll (final g k) (context_of g k) is x d
+settled_body g k h x n m is d fits s apart below once cases targets left marked room objects labels turns =
+    settle_all is g (final g k) c (around g k n) m x d fits cases false false targets (record { broken = λ e. absurd (cc e); continued = λ e. absurd (cc e); labels = marked }) called known turns where
       c : Context
       c = context_of g k
 
@@ -488,9 +494,9 @@ labels_of b r = record { labels = b.labels; returns = r; cases = 0; has_default 
 pub settled_function : (g : Whole) (k : ℕ) (h : Place) (x : Exits) (n : ℕ) (r : Option IntType) (b : BodyTree) (d : Draft) → AreItems (around g k n) (labels_of b r) b.items → IsMarked b
     → (block_of g.program k ≡ b) → Stage g k h (calls_in_items b.items) d (lowered_items (context_of g k) b.items x d) → x.left < d.points → x.labels + b.labels ≤ d.points → n ≤ length (block_of g.program k).locals → length (block_of g.program k).locals ≤ length d.objects
     → ((i : ℕ) → n ≤ i → i < n + objects_in_items b.items → (i < g.objects k) × (g.numbers k i ≡ object_at (lowered_items (context_of g k) b.items x d).objects i))
-    → ((l : ℕ) → l < b.labels → label_at g.labels (x.labels + l) ≡ label_at (lowered_items (context_of g k) b.items x d).labels (x.labels + l)) → SettleAll (final g k) (context_of g k) b.items x d
-settled_function g k h x n r b d fits marked same s left before first room objects labels =
-    settled_body g k h x n m b.items d fits s apart below once marked.cases marked.targets left (λ l low. subst (λ (y : BodyTree). times_in (labelled l) y.items ≡ 1) (sym same) (marked.labels l low)) slots objects marks where
+    → ((l : ℕ) → l < b.labels → label_at g.labels (x.labels + l) ≡ label_at (lowered_items (context_of g k) b.items x d).labels (x.labels + l)) → AllTurn (final g k) (turns_in_items (context_of g k) b.items x d) → SettleAll (final g k) (context_of g k) b.items x d
+settled_function g k h x n r b d fits marked same s left before first room objects labels turns =
+    settled_body g k h x n m b.items d fits s apart below once marked.cases marked.targets left (λ l low. subst (λ (y : BodyTree). times_in (labelled l) y.items ≡ 1) (sym same) (marked.labels l low)) slots objects marks turns where
       slots : n + objects_in_items b.items ≤ length d.objects
       slots = let z = items_fit b.items (around g k n) (labels_of b r) fits (omega (arith, first)) in omega (arith, z, room)
 

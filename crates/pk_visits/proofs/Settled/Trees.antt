@@ -1,5 +1,5 @@
 -- Declarations, marks and jumps in a tree as it is lowered from a draft: each object has the variable that the graph says of it, each mark's point the label that it gets here, each jump its target.
-use Rattle.std.specs.Prelude.{◌≡◌, ℕ, ◌+◌, ◌<◌, List, [], ◌∷◌, length}
+use Rattle.std.specs.Prelude.{◌≡◌, ℕ, ◌+◌, ◌<◌, List, [], ◌∷◌, ◌++◌, length}
 use Rattle.pk_typed.specs.Trees.{DeclaredTree, ForStartTree, StatementTree, ItemTrees}
 use Rattle.pk_typed.specs.Trees as tree
 use Rattle.pk_draft.specs.declared.drafts.Label.{Label}
@@ -12,14 +12,29 @@ use Rattle.pk_lower_statement.specs.Statements.{inside, in_switch, branching, lo
 use Rattle.pk_welltyped.specs.Marks.{times_in, IsSwitch}
 use Rattle.pk_meaning.specs.Steps.{Mark, labelled, numbered, otherwise}
 use Rattle.pk_meaning.specs.Work.{Loop, While, DoWhile, For}
-use Rattle.pk_visits.proofs.Slots.{Draft, label_at}
+use Rattle.pk_visits.specs.Turns.{TurnPoint, turning}
+use Rattle.pk_visits.proofs.Slots.{Draft, Among, label_at}
 
--- what is known in the end of a path: how many objects it declares, the variable of each, the label of each point; its items
+-- what is known in the end of a path: how many objects it declares, the variable of each, the label of each point, where each loop begins again; its items
 pub record Final : Type 0 where
   pub items : ItemTrees
   pub objects : ℕ
   pub numbers : ℕ → ℕ
   pub labels : List Label
+  pub turns : List TurnPoint
+
+-- these loops begin again where is known
+abbrev pub AllTurn : Final → List TurnPoint → Type 0
+AllTurn o [] = Unit {0}
+AllTurn o (t ∷ ts) = Among t o.turns × AllTurn o ts
+
+pub front_turn : (o : Final) (xs ys : List TurnPoint) → AllTurn o (xs ++ ys) → AllTurn o xs
+front_turn o [] ys h = tt
+front_turn o (x ∷ xs) ys h = (h.0, front_turn o xs ys h.1)
+
+pub back_turn : (o : Final) (xs ys : List TurnPoint) → AllTurn o (xs ++ ys) → AllTurn o ys
+back_turn o [] ys h = h
+back_turn o (x ∷ xs) ys h = back_turn o xs ys h.1
 
 -- the point of a mark
 abbrev pub mark_point : Mark → Exits → ℕ
@@ -65,11 +80,12 @@ unfoldable mutual
   Settles o c (tree.if_else q e s r) x d = Settles o c s x (branching q (ways c e) d) × Settles o c r x (at (d.points + 1) (lowered c s x (branching q (ways c e) d)))
   Settles o c (tree.switch q t e zs b s) x d =
       let k = tested t (operand e (ways c e)) (on q d) in IsSwitch (length zs) b s × Settles o c s (in_switch k.1.points (length zs) x) (switch_begun (site c q) t zs b k)
-  Settles o c (tree.while q e s) x d = Settles o c s (inside (d.points + 2) d.points x) (at (d.points + 1) ((ways c e).choice (d.points + 1) (d.points + 2) (loop_begun (on q d))))
-  Settles o c (tree.do_while q s e) x d = Settles o c s (inside (d.points + 2) (d.points + 1) x) (at d.points (loop_begun (on q d)))
+  Settles o c (tree.while q e s) x d = Among (turning q d.points) o.turns × Settles o c s (inside (d.points + 2) d.points x) (at (d.points + 1) ((ways c e).choice (d.points + 1) (d.points + 2) (loop_begun (on q d))))
+  Settles o c (tree.do_while q s e) x d = Among (turning q d.points) o.turns × Settles o c s (inside (d.points + 2) (d.points + 1) x) (at d.points (loop_begun (on q d)))
   Settles o c (tree.for_loop q start e third s) x d =
       let f = on q (for_begun c start (on q d)) in
       IsSettledStart o c start (fresh 1 (on q d))
+      × Among (turning q f.points) o.turns
       × Settles o c s (inside d.points (f.points + 2) x) (at (f.points + 1) (for_test c e (f.points + 1) d.points (loop_begun f)))
   Settles o c (tree.goto q l) x d = times_in (labelled l) o.items ≡ 1
   Settles o c (tree.continue q) x d = x.continued ≡ x.left → ⊥

@@ -79,9 +79,10 @@ while_laid g proper k h x p e s a pt hs (d, n, m, is, fits, calm, t, marking, se
           fits = fits;
           stage = part_until {S = Free} g Stays k j (calls_in e ++ calls_in_statement s) b f (at (o.points + 2) f) s0 (record { edges = λ v w. w; names = refl; variables = omega arith; points = omega arith; size = refl; labels = λ v w. inr refl; beyond = λ v w. inr refl; regions = λ v. inr refl; apart = λ m o w. inl refl; paths = refl; scopes = λ n z h. h; here = (refl, refl); many = refl; made = λ n z. refl; unmade = λ n z. refl; slots = refl; objects = λ n. inr refl });
           marking = marking;
-          settled = settled;
+          settled = settled.1;
           calm = calm;
           heads = z.first;
+          told = settled.0;
           begins = z.second;
           continues = z.first;
         },
@@ -123,9 +124,10 @@ do_laid g proper k h x p s e a pt hs (d, n, m, is, fits, calm, t, marking, settl
           fits = fits;
           stage = part_until {S = Free} g Stays k j (calls_in_statement s ++ calls_in e) b f (at (o.points + 2) f) s0 (record { edges = λ v w. w; names = refl; variables = omega arith; points = omega arith; size = refl; labels = λ v w. inr refl; beyond = λ v w. inr refl; regions = λ v. inr refl; apart = λ m o w. inl refl; paths = refl; scopes = λ n z h. h; here = (refl, refl); many = refl; made = λ n z. refl; unmade = λ n z. refl; slots = refl; objects = λ n. inr refl });
           marking = marking;
-          settled = settled;
+          settled = settled.1;
           calm = calm;
           heads = z.first;
+          told = settled.0;
           begins = z.first;
           continues = z.second;
         },

@@ -109,9 +109,10 @@ for_begun g proper k h x q start v third s a hs d n m fits calm t marking settle
           fits = (fits.1, fits.2, fits.3);
           stage = sb;
           marking = marking;
-          settled = settled.1;
+          settled = settled.2;
           calm = calm_b;
           heads = z.first;
+          told = settled.1;
           begins = z.second;
           continues = z.third;
         },

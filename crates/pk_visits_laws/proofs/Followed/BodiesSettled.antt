@@ -11,13 +11,14 @@ use Rattle.pk_lower_statement.specs.Statements.{lowered_items}
 use Rattle.pk_meaning.specs.Programs.{block_of}
 use Rattle.pk_meaning.specs.Work.{Place}
 use Rattle.pk_lower_laws.proofs.Drafts.Plans.{World, Draft, Lasting, replicated, body_at_is}
+use Rattle.pk_visits.specs.Turns.{turns_in_items}
 use Rattle.pk_visits.proofs.Slots.{Slot, label_at, object_at}
-use Rattle.pk_visits.proofs.Settled.Trees.{SettleAll}
+use Rattle.pk_visits.proofs.Settled.Trees.{AllTurn, SettleAll}
 use Rattle.pk_visits.proofs.Settled.Bodies.{settled_function}
 use Rattle.pk_visits.proofs.Stands.{Whole, context_of, final, around, Stage}
 use Rattle.pk_visits_laws.proofs.Followed.Basics.{either_is}
 use Rattle.pk_visits_laws.proofs.Followed.PartAdds.{context_at, body_begun, body_exit, body_ended}
-use Rattle.pk_visits_laws.proofs.Followed.Pending.{PathAt}
+use Rattle.pk_visits_laws.proofs.Followed.Pending.{PathAt, turns_at}
 use Rattle.pk_visits_laws.proofs.Followed.Bodies.{part_closes}
 use Rattle.pk_visits_laws.proofs.Followed.BodyStages.{IsWholeOf, begun_grows, body_stage}
 use Rattle.pk_visits_laws.proofs.Followed.BodyEnds.{own_label, exit_is, items_grow}
@@ -32,13 +33,15 @@ few (t ∷ ts) (x ∷ xs) h = let z = few ts xs h.2 in omega (z, arith)
 pub body_settled : (W : World) (l : Lasting W) (f : W.table.Variable → Slot) (d : Draft W) (g : Whole) → IsWholeOf W f d g → g.program.unit ≡ W.unit → (k : ℕ) (q : PathAt W f d k) → k < length W.paths → (h : Place) → g.shows (body_begun W f k q.first q.path q.place q.before).here k h
     → IsMarked q.place.body
     → ((i : ℕ) → length q.place.function.parameters ≤ i → i < length q.place.function.parameters + objects_in_items q.place.body.items → (i < g.objects k) × (g.numbers k i ≡ object_at (body_ended W f k q.first q.path q.place q.before).objects i))
+    → AllTurn (final g k) (turns_at W f d k q)
     → SettleAll (final g k) (context_of g k) (block_of g.program k).items (exits_of W f d k q) (body_begun W f k q.first q.path q.place q.before)
-body_settled W l f d g is unit k q there h here marked objects =
+body_settled W l f d g is unit k q there h here marked objects turns =
     subst (λ (y : BodyTree). SettleAll (final g k) (context_of g k) y.items x o) (sym (is.blocks k q))
     (settled_function g k h x n q.place.function.returns b o fits marked (is.blocks k q) stage (omega arith) (omega arith) (subst (λ (y : BodyTree). n ≤ length y.locals) (sym (is.blocks k q)) (few q.place.function.parameters b.locals q.place.is_body.parameters))
     (subst (λ (y : BodyTree). length y.locals ≤ length o.objects) (sym (is.blocks k q)) (omega (slots, arith)))
     (λ i from to. subst (λ (y : Context). (i < g.objects k) × (g.numbers k i ≡ object_at (lowered_items y b.items x o).objects i)) (sym (is.contexts k q)) (objects i from to))
-    (λ i low. subst (λ (y : Context). label_at g.labels (p + 1 + i) ≡ label_at (lowered_items y b.items x o).labels (p + 1 + i)) (sym (is.contexts k q)) (labelled i low))) where
+    (λ i low. subst (λ (y : Context). label_at g.labels (p + 1 + i) ≡ label_at (lowered_items y b.items x o).labels (p + 1 + i)) (sym (is.contexts k q)) (labelled i low))
+    (subst (λ (y : Context). AllTurn (final g k) (turns_in_items y b.items x o)) (sym (is.contexts k q)) turns)) where
       o : DraftOf Slot
       o = body_begun W f k q.first q.path q.place q.before
 

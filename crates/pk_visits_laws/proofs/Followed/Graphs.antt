@@ -9,6 +9,7 @@ use Rattle.pk_lower.specs.Parts.{sizes_of, program_draft}
 use Rattle.pk_meaning.specs.Objects.{Object, file, local, result}
 use Rattle.pk_meaning.specs.Programs.{Program, function_number}
 use Rattle.pk_meaning.specs.Work.{Place}
+use Rattle.pk_visits.specs.Turns.{program_turns}
 use Rattle.pk_visits.proofs.Slots.{slots, Draft, Among}
 use Rattle.pk_visits.proofs.Stands.{Whole}
 use Rattle.pk_visits.proofs.Journeys.{IsAllNoted}
@@ -56,6 +57,7 @@ graph u paths = record {
   objects = λ k. (ends_of u paths k).objects;
   numbers = λ k. (ends_of u paths k).numbers;
   spans = λ k. (size_in (sizes_of u paths) (function_number (program_of u paths) k)).points;
+  turns = λ k. program_turns slots u paths k;
   begun = λ k e w. Unit {0};
   read = λ k at. Unit {0};
 }

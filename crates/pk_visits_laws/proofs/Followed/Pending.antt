@@ -2,19 +2,22 @@
 use Rattle.std.proofs.Common.{◌≡◌, ℕ, zero, suc, ◌+◌, ◌<◌, ◌≤◌, ◌⊎◌, inl, inr, List, [], ◌∷◌, Option, Some, None, length, refl, ap, sym, subst, ◌∙◌, arith, slice_index_or}
 use Rattle.pk_calls.specs.declared.listings.Caller.{Caller}
 use Rattle.pk_calls.specs.declared.listings.CallPath.{CallPath}
-use Rattle.pk_calls.specs.Calls.{calls_of}
+use Rattle.pk_calls.specs.Calls.{body_of, calls_of}
 use Rattle.pk_draft.specs.declared.drafts.Region.{Region}
+use Rattle.pk_draft.specs.Drafts.{DraftOf}
 use Rattle.pk_lower.specs.Parts as part
 use Rattle.pk_lower_laws.proofs.Drafts.Places.{Holds}
-use Rattle.pk_lower_laws.proofs.Drafts.Plans.{World, Draft, base, sizes, size_of, Lasting, Plan, PathIs, part_made_is}
+use Rattle.pk_lower_laws.proofs.Drafts.Plans.{World, Draft, base, sizes, size_of, Lasting, Plan, PathIs, its_body, its_function, part_made_is}
 use Rattle.pk_lower_laws.proofs.Drafts.Drafts.{behind_part, ends_in, function_from}
 use Rattle.pk_lower_laws.proofs.Drafts.Wholes.{Paths, next_plan}
+use Rattle.pk_visits.specs.Turns.{TurnPoint, turns_from, turns_of_body, turns_of_part}
 use Rattle.pk_visits.proofs.Slots.{Slot, slots, Edge, Extends, Among, label_at, region_at}
 use Rattle.pk_visits.proofs.Grows.Parts.{entry_marks}
 use Rattle.pk_visits.proofs.Numbered.Names.{names_by, draft_by}
+use Rattle.pk_visits.proofs.Numbered.Parts.{part_by}
 use Rattle.pk_visits_laws.proofs.Followed.Basics.{either_is}
 use Rattle.pk_visits_laws.proofs.Followed.Paths.{firsts_from, first_of}
-use Rattle.pk_visits_laws.proofs.Followed.PartAdds.{part_at, PartAdds, part_adds}
+use Rattle.pk_visits_laws.proofs.Followed.PartAdds.{context_at, part_at, PartAdds, part_adds}
 
 -- each of these paths is entered by a call
 abbrev pub HaveCallers : List CallPath → Type 0
@@ -114,14 +117,40 @@ callers_behind : (ps : List CallPath) → HaveCallers ps → HaveCallersBehind p
 callers_behind [] h = tt
 callers_behind (p ∷ ps) h = h.1
 
-pub path_at : (W : World) → Lasting W → (f : W.table.Variable → Slot) (k n : ℕ) (ps : List CallPath) → Paths W k n ps → HaveCallersBehind ps → (d : Draft W) → Plan W k n d → names_by f d.names ≡ slots → ((i : ℕ) → slice_index_or (firsts_from W.unit n ps) i 0 ≡ first_of W.unit W.paths (k + i)) → ((i : ℕ) → i < length ps → W.ends (k + i) ≡ ends_in W.unit (function_from ps i) (behind_part W.unit (sizes W) k n ps d i)) → (i : ℕ) → i < length ps → PathAt W f (part.parts_from W.unit (sizes W) k n ps d) (k + i)
-unfolding part.parts_from behind_part
-path_at W l f k n [] h o d plan ns ones ends i low = absurd (omega (low, arith))
-path_at W l f k n (p ∷ ps) h o d plan ns ones ends zero low =
+-- where the loops of path j begin again
+abbrev pub turns_at : (W : World) (f : W.table.Variable → Slot) (g : Draft W) (j : ℕ) → PathAt W f g j → List TurnPoint
+turns_at W f g j q =
+    let c = context_at W j q.first q.path in
+    turns_of_body c q.place.body (part.placed_entry q.path.caller (part.begun c q.place.function q.place.body q.path.caller (region_at q.before.regions j) (draft_by f q.before)))
+
+-- path j, whose loops begin again where a list says it
+pub record TurnsAt (W : World) (f : W.table.Variable → Slot) (g : Draft W) (turns : ℕ → List TurnPoint) (j : ℕ) : Type 1 where
+  pub path : PathAt W f g j
+  pub turned : turns j ≡ turns_at W f g j path
+
+body_turns : {V : Type 0} (W : World) (k n : ℕ) (p : CallPath) (h : PathIs W k n p) (from : Option Caller) (r : Region) (d : DraftOf V)
+    → turns_of_part (context_at W k n p) (part.function_at W.unit p.function) (body_of W.unit p.function) from r d ≡ turns_of_part (context_at W k n p) h.function (Some h.body) from r d
+body_turns W k n p h from r d =
+    let c = context_at W k n p in
+    ap (λ (g : _). turns_of_part c g (body_of W.unit p.function) from r d) (its_function W.unit p.function h.function h.there)
+    ∙ ap (λ (o : _). turns_of_part c h.function o from r d) (its_body W.unit p.function h.function h.body h.there h.has)
+
+pub path_turned : (W : World) → Lasting W → (f : W.table.Variable → Slot) (turns : ℕ → List TurnPoint) (k n : ℕ) (ps : List CallPath) → Paths W k n ps → HaveCallersBehind ps → (d : Draft W) → Plan W k n d → names_by f d.names ≡ slots → ((i : ℕ) → slice_index_or (firsts_from W.unit n ps) i 0 ≡ first_of W.unit W.paths (k + i)) → ((i : ℕ) → i < length ps → W.ends (k + i) ≡ ends_in W.unit (function_from ps i) (behind_part W.unit (sizes W) k n ps d i))
+    → ((i : ℕ) → i < length ps → turns (k + i) ≡ slice_index_or (turns_from W.unit (sizes W) k n ps (draft_by f d)) i []) → (i : ℕ) → i < length ps → TurnsAt W f (part.parts_from W.unit (sizes W) k n ps d) turns (k + i)
+unfolding part.parts_from behind_part turns_from
+path_turned W l f turns k n [] h o d plan ns ones ends turned i low = absurd (omega (low, arith))
+path_turned W l f turns k n (p ∷ ps) h o d plan ns ones ends turned zero low =
     let at : k ≡ k + zero = omega arith in
-    subst (PathAt W f (part.parts_from W.unit (sizes W) (k + 1) (n + length (calls_of W.unit p.function)) ps (part_at W k n p d))) at
-    (record { first = n; path = p; place = h.0; before = d; plan = plan; names = ns; first_is = ones zero ∙ ap (first_of W.unit W.paths) (sym at); ends = ap W.ends at ∙ ends zero low; others = ps; paths = h.1; callers = o; rest = refl })
-path_at W l f k n (p ∷ ps) h o d plan ns ones ends (suc i) low =
+    subst (TurnsAt W f (part.parts_from W.unit (sizes W) (k + 1) (n + length (calls_of W.unit p.function)) ps (part_at W k n p d)) turns) at
+    (record {
+      path = record { first = n; path = p; place = h.0; before = d; plan = plan; names = ns; first_is = ones zero ∙ ap (first_of W.unit W.paths) (sym at); ends = ap W.ends at ∙ ends zero low; others = ps; paths = h.1; callers = o; rest = refl };
+      turned = ap turns at ∙ turned zero low ∙ body_turns W k n p h.0 p.caller (region_at d.regions k) (draft_by f d);
+    })
+path_turned W l f turns k n (p ∷ ps) h o d plan ns ones ends turned (suc i) low =
     let at : k + 1 + i ≡ k + suc i = omega arith in
     let m = n + length (calls_of W.unit p.function) in
-    subst (PathAt W f (part.parts_from W.unit (sizes W) (k + 1) m ps (part_at W k n p d))) at (path_at W l f (k + 1) m ps h.1 (callers_behind ps o) (part_at W k n p d) (next_part W l k n p h.0 d plan) ((part_adds W l f k n p h.0 d).names ∙ ns) (λ j. ones (suc j) ∙ ap (first_of W.unit W.paths) (omega arith)) (λ j b. let next : k + 1 + j ≡ k + suc j = omega arith in ap W.ends next ∙ ends (suc j) (omega (b, arith))) i (omega (low, arith)))
+    subst (TurnsAt W f (part.parts_from W.unit (sizes W) (k + 1) m ps (part_at W k n p d)) turns) at
+    (path_turned W l f turns (k + 1) m ps h.1 (callers_behind ps o) (part_at W k n p d) (next_part W l k n p h.0 d plan) ((part_adds W l f k n p h.0 d).names ∙ ns) (λ j. ones (suc j) ∙ ap (first_of W.unit W.paths) (omega arith)) (λ j b. let next : k + 1 + j ≡ k + suc j = omega arith in ap W.ends next ∙ ends (suc j) (omega (b, arith)))
+    (λ j b. let next : k + 1 + j ≡ k + suc j = omega arith in
+    ap turns next ∙ turned (suc j) (omega (b, arith)) ∙ ap (λ (z : DraftOf Slot). slice_index_or (turns_from W.unit (sizes W) (k + 1) m ps z) j []) (part_by W.table.Variable Slot f (context_at W k n p) p.function p.caller (region_at d.regions k) d))
+    i (omega (low, arith)))

@@ -26,7 +26,7 @@ use Rattle.pk_visits_laws.proofs.Followed.Propers.{is_proper}
 use Rattle.pk_visits_laws.proofs.Followed.PartAdds.{body_begun}
 use Rattle.pk_visits_laws.proofs.Followed.Pending.{PathAt}
 use Rattle.pk_visits_laws.proofs.Followed.BodiesStand.{region_stays}
-use Rattle.pk_visits_laws.proofs.Followed.WholeGraph.{paths_at, whole_is}
+use Rattle.pk_visits_laws.proofs.Followed.WholeGraph.{paths_turned, whole_is}
 use Rattle.pk_visits_laws.proofs.Followed.PathBodies.{path_stands}
 use Rattle.pk_visits_laws.proofs.Followed.EntryPoint.{entry_label}
 use Rattle.pk_visits_laws.proofs.Followed.Begins.{body_shows, opened_position}
@@ -61,7 +61,8 @@ unit_stands u entry paths unit marked has l are h =
     let proper = is_proper u entry paths l h in
     let is = whole_is u entry paths unit has l are h in
     let some = some_paths u entry paths l in
-    let at = paths_at u entry paths unit has l are h in
+    let turned = paths_turned u entry paths unit has l are h in
+    let at = λ (k : ℕ) (low : k < length paths). (turned k low).path in
     let q = at 0 some in
     let entry_region : region_at (whole u paths).regions 0 ≡ record { at = entry_point; points = entry_point + 1; variables = length (Rattle.std.specs.Prelude.map file_variable u.objects) } = h.entry ∙ first_region_is u paths some in
     let there : region_at g.regions 0 ≡ region_at (whole u paths).regions 0 = ap (λ (rs : List Region). region_at rs 0) is.graph.regions in
@@ -75,7 +76,7 @@ unit_stands u entry paths unit marked has l are h =
     let position : (body_begun W slot_of 0 q.first q.path q.place q.before).here.at ≡ (block_of (program_of u paths) 0).opened = opened_position u paths h is 0 q ∙ ap (λ (b : BodyTree). b.opened) (sym (block_is W 0 q.first q.path q.place)) in
     record {
       some = some;
-      bodies = λ k b. path_stands u paths h is proper.positions k (at k b) b (marked_body u paths marked k (at k b)) (body_shows u paths h is k (at k b) proper b);
+      bodies = λ k b. path_stands u paths h is proper.positions k (turned k b) b (marked_body u paths marked k (at k b)) (body_shows u paths h is k (at k b) proper b);
       entry = ap (λ (r : Region). r.at) (there ∙ entry_region);
       exit = ap (λ (r : Region). r.points) (there ∙ entry_region);
       shown = subst (λ (n : ℕ). ShowsAt g n 0 (body_place (program_of u paths) 0)) enters

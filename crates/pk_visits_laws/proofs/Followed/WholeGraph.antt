@@ -19,7 +19,8 @@ use Rattle.pk_lower_laws.proofs.Drafts.Plans.{Plan, Lasting, size_of, place_at, 
 use Rattle.pk_lower_laws.proofs.Drafts.Parts.{part_points}
 use Rattle.pk_lower_laws.proofs.Drafts.Firsts.{Counted, first_plan}
 use Rattle.pk_lower_laws.proofs.Drafts.Drafts.{whole_made}
-use Rattle.pk_visits.proofs.Slots.{Slot, label_at, region_at}
+use Rattle.pk_visits.specs.Turns.{program_turns}
+use Rattle.pk_visits.proofs.Slots.{Slot, slots, label_at, region_at}
 use Rattle.pk_visits.proofs.Stands.{context_of}
 use Rattle.pk_visits.proofs.Numbered.Names.{draft_by}
 use Rattle.pk_visits.proofs.Numbered.Parts.{program_by}
@@ -27,7 +28,7 @@ use Rattle.pk_visits_laws.proofs.Followed.Paths.{first_of, block_is, function_is
 use Rattle.pk_visits_laws.proofs.Followed.Pairs.{Pair, pairs, slot_of, whole, begins, world, pair_made, AreTyped}
 use Rattle.pk_visits_laws.proofs.Followed.Graphs.{graph, nobody, over_slots, program_of}
 use Rattle.pk_visits_laws.proofs.Followed.PartAdds.{context_at, part_ends}
-use Rattle.pk_visits_laws.proofs.Followed.Pending.{HaveCallers, HaveCallersBehind, PathAt, path_at}
+use Rattle.pk_visits_laws.proofs.Followed.Pending.{HaveCallers, HaveCallersBehind, PathAt, TurnsAt, path_turned}
 use Rattle.pk_visits_laws.proofs.Followed.Bodies.{IsGraphOf}
 use Rattle.pk_visits_laws.proofs.Followed.BodyStages.{IsWholeOf}
 
@@ -61,11 +62,14 @@ begins_plan u entry paths h has l are a =
     first_plan W c
 
 -- each path's part in the unit's draft
-pub paths_at : (u : UnitTree) (entry : ℕ) (paths : List CallPath) → IsUnit u → HasBody u entry → IsListing u entry paths → AreCallPaths u entry paths → AreTyped u paths → (k : ℕ) → k < length paths → PathAt (world u paths) slot_of (whole u paths) k
-paths_at u entry paths h has l are a k low =
+pub paths_turned : (u : UnitTree) (entry : ℕ) (paths : List CallPath) → IsUnit u → HasBody u entry → IsListing u entry paths → AreCallPaths u entry paths → AreTyped u paths → (k : ℕ) → k < length paths → TurnsAt (world u paths) slot_of (whole u paths) (program_turns slots u paths) k
+paths_turned u entry paths h has l are a k low =
     let W = world u paths in
     let at : 0 + k ≡ k = omega arith in
-    subst (PathAt W slot_of (whole u paths)) at (path_at W a.lasts slot_of 0 1 paths a.paths_are (callers_in u entry paths l) (begins u paths) (begins_plan u entry paths h has l are a) refl (λ i. ap (first_of u paths) (omega arith)) (λ i b. let at : 0 + i ≡ i = omega arith in ap W.ends at) k low)
+    subst (TurnsAt W slot_of (whole u paths) (program_turns slots u paths)) at (path_turned W a.lasts slot_of (program_turns slots u paths) 0 1 paths a.paths_are (callers_in u entry paths l) (begins u paths) (begins_plan u entry paths h has l are a) refl (λ i. ap (first_of u paths) (omega arith)) (λ i b. let at : 0 + i ≡ i = omega arith in ap W.ends at) (λ i b. let at : 0 + i ≡ i = omega arith in ap (program_turns slots u paths) at) k low)
+
+pub paths_at : (u : UnitTree) (entry : ℕ) (paths : List CallPath) → IsUnit u → HasBody u entry → IsListing u entry paths → AreCallPaths u entry paths → AreTyped u paths → (k : ℕ) → k < length paths → PathAt (world u paths) slot_of (whole u paths) k
+paths_at u entry paths h has l are a k low = (paths_turned u entry paths h has l are a k low).path
 
 -- ---- the graph
 

@@ -4,6 +4,7 @@ use Rattle.pk_graph.specs.Graphs.{GraphOf, point_at}
 use Rattle.pk_visits_laws.specs.Ways.OneWay.{SharesAccesses}
 use Rattle.pk_welltyped.specs.Marks.{AreMarked}
 use Rattle.pk_visits.specs.SameVisits.{HaveSameVisits}
+use Rattle.pk_visits.specs.Turning.{TurnsAreAt, graph_turns}
 use Rattle.pk_report_laws.specs.Programs.ToldOfPrograms.{program_of}
 use Rattle.pk_report_laws.proofs.Programs.Telling.{true_of}
 use Rattle.pk_report_laws.proofs.laws.true_states_are_true_of_programs.Goals as goal
@@ -20,3 +21,5 @@ returns c = λ text entry g h states true_are.
     (subst (λ (x : GraphOf). HaveSameVisits (program_of h) x) (sym h.graph) both)
     (c.programs_are_never_stuck.ensures h.unit entry h.paths unit marked h.called.called.0 h.few)
     (c.accesses_are_apart.ensures text entry g h) (c.texts_computed_is_evaluated.ensures text entry g h) (c.texts_computed_accesses_are_evaluated.ensures text entry g h)
+    (subst (λ (x : GraphOf). TurnsAreAt (program_of h) x (graph_turns h.unit h.paths)) (sym h.graph) (c.turns_are_followed.ensures h.unit entry h.paths unit marked h.called.called.0 h.few))
+    (c.turns_of_texts_are_apart.ensures text entry g h)

@@ -1,0 +1,3 @@
+pub mod Loops
+pub mod Trees
+pub mod Laws
