@@ -33,6 +33,7 @@ noted g B R = record {
   objects = g.objects;
   numbers = g.numbers;
   spans = g.spans;
+  turns = g.turns;
   begun = B;
   read = R;
 }
