@@ -9,7 +9,7 @@ use Rattle.pk_ctypes.specs.declared.types.IntType.{IntType}
 use Rattle.pk_ctypes.specs.declared.types.Op.{Op}
 use Rattle.pk_ctypes.specs.declared.types.Op.TheVariants.{Add, Sub, Mul, Div, Rem, Shl, Shr, And, Or, Xor, Lt, Gt, Le, Ge, Eq, Ne, Neg, BitNot, Not}
 use Rattle.pk_ctypes.specs.Types.{InType, wrapped}
-use Rattle.pk_ctypes.specs.Operators.{value_of, HasRight}
+use Rattle.pk_ctypes.specs.Operators.{value_of, HasRight, right_number}
 use Rattle.pk_ctypes.proofs.Wrapped.{wrapped_in}
 use Rattle.pk_ctypes.proofs.Faulting.{told}
 use Rattle.pk_typed.specs.Trees.{ForStartTree, StatementTree, ValueTree, DeclaredTree, ItemTrees}
@@ -20,7 +20,7 @@ use Rattle.pk_meaning.specs.Objects.{Array, Scope, number_of}
 use Rattle.pk_meaning.specs.Programs.{Program, function_of, block_of, with_declared, body_scope}
 use Rattle.pk_meaning.specs.Work as work
 use Rattle.pk_meaning.specs.Work.{Place, Way, Onward, Refused, Lost, Caller, Nobody, Path, Ahead, Work}
-use Rattle.pk_meaning.specs.Steps.{Config, Next, To, Faulted, Assumed, Returned, Wants, Stuck, place, standing, standing_at, for_scope, caller_of, on, element_of, stores, operated, right_number, takes, on_top, on_below, with_value, with_choice, with_index, declares, all_declared, rest, turned, for_start, returns, does, chooses, falls, goes, returned, evaluate, bind, step_of}
+use Rattle.pk_meaning.specs.Steps.{Config, Next, To, Faulted, Assumed, Returned, Wants, Stuck, place, standing, standing_at, for_scope, caller_of, on, element_of, stores, operated, takes, on_top, on_below, with_value, with_choice, with_index, declares, all_declared, rest, turned, for_start, returns, does, chooses, falls, goes, returned, evaluate, bind, step_of}
 use Rattle.pk_computed_laws.specs.Computed.{Operation, one, two, index, assertion, IsTaken, CanFault, Computes, apply, operate, update, advance, load, reload, store, store_kept, renew, renew_index, renewed, replace, replace_index, claim, site, FaultsAreComputed}
 
 -- where it fails, the place is such

@@ -1,5 +1,6 @@
 pub mod Types
 pub mod Conversions
+pub mod Classes
 pub mod Operators
 pub mod Laws
 pub mod Places

@@ -6,6 +6,7 @@ use Rattle.pk_ctypes.specs.declared.types.IntType.{IntType}
 use Rattle.pk_ctypes.specs.declared.types.IntType.TheVariants.{Int}
 use Rattle.pk_ctypes.specs.declared.types.Op.{Op}
 use Rattle.pk_ctypes.specs.declared.types.Op.TheVariants.{Add, Sub, Mul, Div, Rem, Shl, Shr, And, Or, Xor, Lt, Gt, Le, Ge, Eq, Ne, Neg, BitNot, Not}
+use Rattle.pk_ctypes.specs.Classes.{OperatorClass, arithmetic, shift, comparison, unary, negation, class_of}
 use Rattle.pk_ctypes.specs.declared.faults.Fault.{Fault}
 use Rattle.pk_ctypes.specs.declared.faults.Fault.TheVariants.{DivZero, Overflow, Shift}
 use Rattle.pk_ctypes.specs.Types.{width_of, is_signed_of, size_of, InType, is_in_type, wrapped}
@@ -15,26 +16,15 @@ abbrev pub truth : Bool → ℤ
 truth b = if b then pos 1 else pos 0
 
 -- `!` turns a truth round (C99 6.5.3.3)
+abbrev pub is_negation : OperatorClass → Bool
+is_negation arithmetic = false
+is_negation shift = false
+is_negation comparison = false
+is_negation unary = false
+is_negation negation = true
+
 abbrev pub is_not : Op → Bool
-is_not Add = false
-is_not Sub = false
-is_not Mul = false
-is_not Div = false
-is_not Rem = false
-is_not Shl = false
-is_not Shr = false
-is_not And = false
-is_not Or = false
-is_not Xor = false
-is_not Lt = false
-is_not Gt = false
-is_not Le = false
-is_not Ge = false
-is_not Eq = false
-is_not Ne = false
-is_not Neg = false
-is_not BitNot = false
-is_not Not = true
+is_not op = is_negation (class_of op)
 
 -- the divisor is not 0 (C99 6.5.5)
 abbrev pub divided : ℤ → Result ℤ Fault → Result ℤ Fault
@@ -93,26 +83,15 @@ exact BitNot t a b = Ok (complement t a)
 exact Not t a b = Ok (truth (int_eq a (pos 0)))
 
 -- the fault where a signed type has no room for that number
+abbrev pub fault_of : OperatorClass → Fault
+fault_of arithmetic = Overflow
+fault_of shift = Shift
+fault_of comparison = Overflow
+fault_of unary = Overflow
+fault_of negation = Overflow
+
 abbrev pub fault_past : Op → Fault
-fault_past Add = Overflow
-fault_past Sub = Overflow
-fault_past Mul = Overflow
-fault_past Div = Overflow
-fault_past Rem = Overflow
-fault_past Shl = Shift
-fault_past Shr = Shift
-fault_past And = Overflow
-fault_past Or = Overflow
-fault_past Xor = Overflow
-fault_past Lt = Overflow
-fault_past Gt = Overflow
-fault_past Le = Overflow
-fault_past Ge = Overflow
-fault_past Eq = Overflow
-fault_past Ne = Overflow
-fault_past Neg = Overflow
-fault_past BitNot = Overflow
-fault_past Not = Overflow
+fault_past op = fault_of (class_of op)
 
 -- Second stage: a signed type has the number or not (C99 6.5 paragraph 5), an unsigned one wraps it (C99 6.2.5 paragraph 9).
 abbrev pub fitted : Fault → IntType → ℤ → Result ℤ Fault
@@ -127,45 +106,34 @@ abbrev pub value_of : Op → IntType → ℤ → ℤ → Result ℤ Fault
 value_of op t a b = fitted_if (fault_past op) t (exact op t a b)
 
 -- what is asked of the right operand: nothing of a shift's count, and a unary operator has none
+abbrev pub IsRightOf : OperatorClass → IntType → ℤ → Type 0
+IsRightOf arithmetic t b = InType t b
+IsRightOf shift t b = Unit {0}
+IsRightOf comparison t b = InType t b
+IsRightOf unary t b = Unit {0}
+IsRightOf negation t b = Unit {0}
+
 abbrev pub HasRight : Op → IntType → ℤ → Type 0
-HasRight Add t b = InType t b
-HasRight Sub t b = InType t b
-HasRight Mul t b = InType t b
-HasRight Div t b = InType t b
-HasRight Rem t b = InType t b
-HasRight Shl t b = Unit {0}
-HasRight Shr t b = Unit {0}
-HasRight And t b = InType t b
-HasRight Or t b = InType t b
-HasRight Xor t b = InType t b
-HasRight Lt t b = InType t b
-HasRight Gt t b = InType t b
-HasRight Le t b = InType t b
-HasRight Ge t b = InType t b
-HasRight Eq t b = InType t b
-HasRight Ne t b = InType t b
-HasRight Neg t b = Unit {0}
-HasRight BitNot t b = Unit {0}
-HasRight Not t b = Unit {0}
+HasRight op t b = IsRightOf (class_of op) t b
 
 -- comparisons and `!` give an int (C99 6.5.3.3, 6.5.8, 6.5.9), the others a number of the operands' type
+abbrev pub type_given : OperatorClass → IntType → IntType
+type_given arithmetic t = t
+type_given shift t = t
+type_given comparison t = Int
+type_given unary t = t
+type_given negation t = Int
+
 abbrev pub result_type : Op → IntType → IntType
-result_type Add t = t
-result_type Sub t = t
-result_type Mul t = t
-result_type Div t = t
-result_type Rem t = t
-result_type Shl t = t
-result_type Shr t = t
-result_type And t = t
-result_type Or t = t
-result_type Xor t = t
-result_type Lt t = Int
-result_type Gt t = Int
-result_type Le t = Int
-result_type Ge t = Int
-result_type Eq t = Int
-result_type Ne t = Int
-result_type Neg t = t
-result_type BitNot t = t
-result_type Not t = Int
+result_type op t = type_given (class_of op) t
+
+-- the right operand, converted to the operator's type but for a shift's count (C99 6.5.7)
+abbrev pub converted_unless_count : OperatorClass → IntType → ℤ → ℤ
+converted_unless_count arithmetic t w = wrapped t w
+converted_unless_count shift t w = w
+converted_unless_count comparison t w = wrapped t w
+converted_unless_count unary t w = wrapped t w
+converted_unless_count negation t w = wrapped t w
+
+abbrev pub right_number : Op → IntType → ℤ → ℤ
+right_number op t w = converted_unless_count (class_of op) t w

@@ -4,7 +4,8 @@ use Rattle.std.specs.Option.{option_and_then}
 use Rattle.pk_ctypes.specs.declared.faults.Fault.{Fault}
 use Rattle.pk_ctypes.specs.declared.types.IntType.{IntType}
 use Rattle.pk_ctypes.specs.declared.types.Op.{Op}
-use Rattle.pk_ctypes.specs.declared.types.Op.TheVariants.{Add, Sub, Mul, Div, Rem, Shl, Shr, And, Or, Xor, Lt, Gt, Le, Ge, Eq, Ne, Neg, BitNot, Not}
+use Rattle.pk_ctypes.specs.Classes.{OperatorClass, arithmetic, shift, comparison, negation, class_of}
+use Rattle.pk_ctypes.specs.Classes as classes
 use Rattle.pk_ctypes.specs.Types.{represents, wrapped}
 use Rattle.pk_ctypes.specs.Conversions.{promoted}
 use Rattle.pk_ctypes.specs.Operators.{value_of, result_type}
@@ -34,26 +35,15 @@ abbrev pub conversion : {V : Type 0} → (u t : IntType) → TreeOf V → TreeOf
 conversion u t e = folded t (kept_if (represents t u) t e) (option_map (λ z. Ok (wrapped t z)) (number_in e))
 
 -- a shift's count isn't converted to the operator's type
+abbrev pub is_of_shifts : OperatorClass → Bool
+is_of_shifts arithmetic = false
+is_of_shifts shift = true
+is_of_shifts comparison = false
+is_of_shifts classes.unary = false
+is_of_shifts negation = false
+
 abbrev pub is_shift : Op → Bool
-is_shift Shl = true
-is_shift Shr = true
-is_shift Add = false
-is_shift Sub = false
-is_shift Mul = false
-is_shift Div = false
-is_shift Rem = false
-is_shift And = false
-is_shift Or = false
-is_shift Xor = false
-is_shift Lt = false
-is_shift Gt = false
-is_shift Le = false
-is_shift Ge = false
-is_shift Eq = false
-is_shift Ne = false
-is_shift Neg = false
-is_shift BitNot = false
-is_shift Not = false
+is_shift op = is_of_shifts (class_of op)
 
 -- the type of an operator's right operand of type u, where the left has type t: a shift's count is promoted alone
 abbrev pub right_type : Op → (u t : IntType) → IntType

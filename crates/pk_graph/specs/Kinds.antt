@@ -3,7 +3,8 @@ use Rattle.std.specs.Prelude.{◌≡◌, ℕ, ◌<◌, List, length, slice_index
 use Rattle.pk_ctypes.specs.declared.types.IntType.{IntType}
 use Rattle.pk_ctypes.specs.declared.types.IntType.TheVariants.{Int}
 use Rattle.pk_ctypes.specs.declared.types.Op.{Op}
-use Rattle.pk_ctypes.specs.declared.types.Op.TheVariants.{Add, Sub, Mul, Div, Rem, Shl, Shr, And, Or, Xor, Lt, Gt, Le, Ge, Eq, Ne, Neg, BitNot, Not}
+use Rattle.pk_ctypes.specs.Classes.{OperatorClass, arithmetic, shift, comparison, negation, class_of}
+use Rattle.pk_ctypes.specs.Classes as classes
 use Rattle.pk_ctypes.specs.Types.{InType, Represents}
 use Rattle.pk_ctypes.specs.Operators.{result_type}
 use Rattle.pk_graph.specs.Trees.{TreeOf, constant, variable, converted, unary, binary, ArrayOf, InstrOf, Skip, Set, Havoc, Clear, Load, Store, Guard, Check}
@@ -55,49 +56,27 @@ pub record IsArray (ks : Kinds) (a : ArrayOf ℕ) : Type 0 where
   pub there : a.variable < length ks
   pub array : (kind_at ks a.variable).length ≡ Some a.length
 
--- operators with one operand, and with two
+-- operators with one operand
+abbrev pub IsOfOne : OperatorClass → Type 0
+IsOfOne arithmetic = ⊥
+IsOfOne shift = ⊥
+IsOfOne comparison = ⊥
+IsOfOne classes.unary = Unit {0}
+IsOfOne negation = Unit {0}
+
 abbrev pub IsUnary : Op → Type 0
-IsUnary Neg = Unit {0}
-IsUnary BitNot = Unit {0}
-IsUnary Not = Unit {0}
-IsUnary Add = ⊥
-IsUnary Sub = ⊥
-IsUnary Mul = ⊥
-IsUnary Div = ⊥
-IsUnary Rem = ⊥
-IsUnary Shl = ⊥
-IsUnary Shr = ⊥
-IsUnary And = ⊥
-IsUnary Or = ⊥
-IsUnary Xor = ⊥
-IsUnary Lt = ⊥
-IsUnary Gt = ⊥
-IsUnary Le = ⊥
-IsUnary Ge = ⊥
-IsUnary Eq = ⊥
-IsUnary Ne = ⊥
+IsUnary op = IsOfOne (class_of op)
 
 -- the right operand's numbers are numbers of the type; a shift's count has a type of its own
+abbrev pub IsRightType : OperatorClass → IntType → IntType → Type 0
+IsRightType arithmetic t u = Represents t u
+IsRightType shift t u = Unit {0}
+IsRightType comparison t u = Represents t u
+IsRightType classes.unary t u = ⊥
+IsRightType negation t u = ⊥
+
 abbrev pub IsRight : Op → IntType → IntType → Type 0
-IsRight Shl t u = Unit {0}
-IsRight Shr t u = Unit {0}
-IsRight Add t u = Represents t u
-IsRight Sub t u = Represents t u
-IsRight Mul t u = Represents t u
-IsRight Div t u = Represents t u
-IsRight Rem t u = Represents t u
-IsRight And t u = Represents t u
-IsRight Or t u = Represents t u
-IsRight Xor t u = Represents t u
-IsRight Lt t u = Represents t u
-IsRight Gt t u = Represents t u
-IsRight Le t u = Represents t u
-IsRight Ge t u = Represents t u
-IsRight Eq t u = Represents t u
-IsRight Ne t u = Represents t u
-IsRight Neg t u = ⊥
-IsRight BitNot t u = ⊥
-IsRight Not t u = ⊥
+IsRight op t u = IsRightType (class_of op) t u
 
 -- each variable is a scalar of the table, each constant lies in its type, and each operand's numbers are numbers of its operator's type
 abbrev pub IsTyped : Kinds → TreeOf ℕ → Type 0

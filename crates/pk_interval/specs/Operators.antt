@@ -3,6 +3,7 @@ use Rattle.std.specs.Prelude.{ℕ, zero, suc, ◌-◌, ◌^◌, Bool, true, fals
 use Rattle.std.specs.Int.{int_min, int_max, int_shr}
 use Rattle.pk_ctypes.specs.declared.types.IntType.{IntType}
 use Rattle.pk_ctypes.specs.declared.types.Op.{Op}
+use Rattle.pk_ctypes.specs.Classes.{OperatorClass, arithmetic, shift, comparison, unary, negation, class_of}
 use Rattle.pk_ctypes.specs.declared.types.Op.TheVariants.{Add, Sub, Mul, Div, Rem, Shl, Shr, And, Or, Xor, Lt, Gt, Le, Ge, Eq, Ne, Neg, BitNot, Not}
 use Rattle.pk_ctypes.specs.Types.{width_of, is_signed_of, high_of}
 use Rattle.pk_interval.specs.declared.outcome.Outcome.{Outcome}
@@ -202,45 +203,23 @@ CanWrap (Within r) = negsuc (2 ^ 126 - 1) ≤ℤ r.lo
 CanWrap TooLarge = Unit {0}
 
 -- what is asked of the right operand: nothing of a shift's counts, and a unary operator has none
+abbrev pub IsRightIn : OperatorClass → IntType → Range → Type 0
+IsRightIn arithmetic t b = IsIn t b
+IsRightIn shift t b = Unit {0}
+IsRightIn comparison t b = IsIn t b
+IsRightIn unary t b = Unit {0}
+IsRightIn negation t b = Unit {0}
+
 abbrev pub HasRightIn : Op → IntType → Range → Type 0
-HasRightIn Add t b = IsIn t b
-HasRightIn Sub t b = IsIn t b
-HasRightIn Mul t b = IsIn t b
-HasRightIn Div t b = IsIn t b
-HasRightIn Rem t b = IsIn t b
-HasRightIn Shl t b = Unit {0}
-HasRightIn Shr t b = Unit {0}
-HasRightIn And t b = IsIn t b
-HasRightIn Or t b = IsIn t b
-HasRightIn Xor t b = IsIn t b
-HasRightIn Lt t b = IsIn t b
-HasRightIn Gt t b = IsIn t b
-HasRightIn Le t b = IsIn t b
-HasRightIn Ge t b = IsIn t b
-HasRightIn Eq t b = IsIn t b
-HasRightIn Ne t b = IsIn t b
-HasRightIn Neg t b = Unit {0}
-HasRightIn BitNot t b = Unit {0}
-HasRightIn Not t b = Unit {0}
+HasRightIn op t b = IsRightIn (class_of op) t b
 
 -- the operators with one operand
+abbrev pub is_of_one : OperatorClass → Bool
+is_of_one arithmetic = false
+is_of_one shift = false
+is_of_one comparison = false
+is_of_one unary = true
+is_of_one negation = true
+
 abbrev pub is_unary : Op → Bool
-is_unary Add = false
-is_unary Sub = false
-is_unary Mul = false
-is_unary Div = false
-is_unary Rem = false
-is_unary Shl = false
-is_unary Shr = false
-is_unary And = false
-is_unary Or = false
-is_unary Xor = false
-is_unary Lt = false
-is_unary Gt = false
-is_unary Le = false
-is_unary Ge = false
-is_unary Eq = false
-is_unary Ne = false
-is_unary Neg = true
-is_unary BitNot = true
-is_unary Not = true
+is_unary op = is_of_one (class_of op)

@@ -5,11 +5,10 @@ use Rattle.pk_ctypes.specs.declared.places.Pos.{Pos}
 use Rattle.pk_ctypes.specs.declared.types.IntType.{IntType}
 use Rattle.pk_ctypes.specs.declared.types.IntType.TheVariants.{Int}
 use Rattle.pk_ctypes.specs.declared.types.Op.{Op}
-use Rattle.pk_ctypes.specs.declared.types.Op.TheVariants.{Add, Sub, Mul, Div, Rem, Shl, Shr, And, Or, Xor, Lt, Gt, Le, Ge, Eq, Ne, Neg, BitNot, Not}
 use Rattle.pk_ctypes.specs.declared.faults.Fault.{Fault}
 use Rattle.pk_ctypes.specs.declared.faults.Fault.TheVariants as faults
 use Rattle.pk_ctypes.specs.Types.{represents, wrapped}
-use Rattle.pk_ctypes.specs.Operators.{value_of, is_not}
+use Rattle.pk_ctypes.specs.Operators.{value_of, right_number, is_not}
 use Rattle.pk_typed.specs.Trees.{PlaceTree, ValueTree, EffectTree, ValueTrees, DeclaredTree, ForStartTree, StatementTree, ItemTrees, no_values, value_before, no_items, declared_before, statement_before, scalar_object, array_object, static_object, hiding_constant}
 use Rattle.pk_typed.specs.Trees as tree
 use Rattle.pk_typed.specs.Types.{type_of}
@@ -201,28 +200,6 @@ abbrev pub with_choice : IntType → ℕ → Numbers → Next → Next
 with_choice t n ch next = if are_any t n ch then next else Wants t n
 
 -- ---- operators (C99 6.5)
-
--- the right operand, converted to the operator's type but for a shift's count (C99 6.5.7)
-abbrev pub right_number : Op → IntType → ℤ → ℤ
-right_number Shl t w = w
-right_number Shr t w = w
-right_number Add t w = wrapped t w
-right_number Sub t w = wrapped t w
-right_number Mul t w = wrapped t w
-right_number Div t w = wrapped t w
-right_number Rem t w = wrapped t w
-right_number And t w = wrapped t w
-right_number Or t w = wrapped t w
-right_number Xor t w = wrapped t w
-right_number Lt t w = wrapped t w
-right_number Gt t w = wrapped t w
-right_number Le t w = wrapped t w
-right_number Ge t w = wrapped t w
-right_number Eq t w = wrapped t w
-right_number Ne t w = wrapped t w
-right_number Neg t w = wrapped t w
-right_number BitNot t w = wrapped t w
-right_number Not t w = wrapped t w
 
 -- what an operator gives at the numbers of its operands
 abbrev pub operated : Op → IntType → (left right : ℤ) → Result ℤ Fault

@@ -5,6 +5,8 @@ use Rattle.std.specs.Int.{int_min, int_max}
 use Rattle.pk_ctypes.specs.declared.types.IntType.TheVariants.{Int}
 use Rattle.pk_ctypes.specs.declared.types.Op.{Op}
 use Rattle.pk_ctypes.specs.declared.types.Op.TheVariants.{Add, Sub, Mul, Div, Rem, Shl, Shr, And, Or, Xor, Lt, Gt, Le, Ge, Eq, Ne, Neg, BitNot, Not}
+use Rattle.pk_ctypes.specs.Classes.{OperatorClass, arithmetic, shift, comparison, negation, class_of}
+use Rattle.pk_ctypes.specs.Classes as classes
 use Rattle.pk_ctypes.specs.Operators.{is_not}
 use Rattle.pk_interval.specs.Ranges.{Range, range_from, met}
 use Rattle.pk_congr.specs.Classes.{Class, met as met_classes}
@@ -61,26 +63,15 @@ flipped Neg = Neg
 flipped BitNot = BitNot
 flipped Not = Not
 
+abbrev pub is_of_comparisons : OperatorClass → Bool
+is_of_comparisons arithmetic = false
+is_of_comparisons shift = false
+is_of_comparisons comparison = true
+is_of_comparisons classes.unary = false
+is_of_comparisons negation = false
+
 abbrev pub is_comparison : Op → Bool
-is_comparison Lt = true
-is_comparison Gt = true
-is_comparison Le = true
-is_comparison Ge = true
-is_comparison Eq = true
-is_comparison Ne = true
-is_comparison Add = false
-is_comparison Sub = false
-is_comparison Mul = false
-is_comparison Div = false
-is_comparison Rem = false
-is_comparison Shl = false
-is_comparison Shr = false
-is_comparison And = false
-is_comparison Or = false
-is_comparison Xor = false
-is_comparison Neg = false
-is_comparison BitNot = false
-is_comparison Not = false
+is_comparison op = is_of_comparisons (class_of op)
 
 -- a comparison of two trees
 pub record Condition : Type 0 where

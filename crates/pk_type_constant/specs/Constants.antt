@@ -3,9 +3,8 @@ use Rattle.std.specs.Prelude.{ℤ, pos, not, Result, Ok, Err, if◌then◌else�
 use Rattle.std.specs.Ordering.{int_eq}
 use Rattle.pk_ctypes.specs.declared.types.IntType.{IntType}
 use Rattle.pk_ctypes.specs.declared.types.Op.{Op}
-use Rattle.pk_ctypes.specs.declared.types.Op.TheVariants as op
 use Rattle.pk_ctypes.specs.declared.faults.Fault.{Fault}
-use Rattle.pk_ctypes.specs.Operators.{truth, value_of}
+use Rattle.pk_ctypes.specs.Operators.{truth, value_of, right_number}
 use Rattle.pk_ctypes.specs.Types.{wrapped}
 use Rattle.pk_typed.specs.Trees.{ValueTree, EffectTree, constant, read, assign, update, step, call, any, unary, convert, binary, and, or, conditional, then_value, unused, run, assume, assert, abort, then_effect}
 use Rattle.pk_type_constant.specs.declared.constants.Constant.{Constant}
@@ -21,31 +20,9 @@ abbrev pub given : Result ℤ Fault → Constant
 given (Ok n) = Number n
 given (Err f) = Faulty f
 
--- the right operand is converted as the left one is, but for the count of a shift (C99 6.5.7)
-abbrev pub right_operand : Op → IntType → ℤ → ℤ
-right_operand op.Add t n = wrapped t n
-right_operand op.Sub t n = wrapped t n
-right_operand op.Mul t n = wrapped t n
-right_operand op.Div t n = wrapped t n
-right_operand op.Rem t n = wrapped t n
-right_operand op.Shl t n = n
-right_operand op.Shr t n = n
-right_operand op.And t n = wrapped t n
-right_operand op.Or t n = wrapped t n
-right_operand op.Xor t n = wrapped t n
-right_operand op.Lt t n = wrapped t n
-right_operand op.Gt t n = wrapped t n
-right_operand op.Le t n = wrapped t n
-right_operand op.Ge t n = wrapped t n
-right_operand op.Eq t n = wrapped t n
-right_operand op.Ne t n = wrapped t n
-right_operand op.Neg t n = wrapped t n
-right_operand op.BitNot t n = wrapped t n
-right_operand op.Not t n = wrapped t n
-
 -- an operator on two operands that are converted to its type
 abbrev pub calculated : Op → IntType → Constant → Constant → Constant
-calculated f t a b = with_number a (λ m. with_number b (λ n. given (value_of f t (wrapped t m) (right_operand f t n))))
+calculated f t a b = with_number a (λ m. with_number b (λ n. given (value_of f t (wrapped t m) (right_number f t n))))
 
 abbrev pub converted : IntType → Constant → Constant
 converted t a = with_number a (λ n. Number (wrapped t n))

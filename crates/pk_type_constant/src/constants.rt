@@ -2,7 +2,7 @@
 
 ghost use Rattle.std.specs.Prelude.{◌≡◌};
 ghost use Rattle.pk_typed.specs.Views.{value_tree, effect_tree};
-ghost use Rattle.pk_ctypes.specs.Operators.{HasRight};
+ghost use Rattle.pk_ctypes.specs.Operators.{HasRight, right_number};
 ghost use Rattle.pk_type_constant.specs.Constants as constants;
 
 use pk_ctypes::{Fault, IntType, Op, apply, conversion_law, convert};
@@ -19,7 +19,7 @@ pub enum Constant {
 }
 
 fn right_operand(op: Op, int_type: IntType, number: i128) -> i128
-    ensures number { result ≡ constants.right_operand op int_type number }
+    ensures number { result ≡ right_number op int_type number }
     ensures fits { HasRight op int_type result }
 {
     conversion_law();

@@ -4,7 +4,8 @@ use Rattle.pk_ctypes.specs.declared.places.Pos.{Pos}
 use Rattle.pk_ctypes.specs.declared.types.IntType.{IntType}
 use Rattle.pk_ctypes.specs.declared.types.IntType.TheVariants.{Int}
 use Rattle.pk_ctypes.specs.declared.types.Op.{Op}
-use Rattle.pk_ctypes.specs.declared.types.Op.TheVariants as number
+use Rattle.pk_ctypes.specs.Classes.{OperatorClass, arithmetic, shift, comparison, negation, class_of}
+use Rattle.pk_ctypes.specs.Classes as classes
 use Rattle.pk_ctypes.specs.Conversions.{promoted, usual_of}
 use Rattle.pk_ctypes.specs.Operators.{result_type}
 use Rattle.pk_ast.specs.Operators.{binary_number_operator, unary_number_operator}
@@ -20,26 +21,15 @@ use Rattle.pk_type_scope.specs.Specifiers.{type_named}
 
 -- The type to which the operands of a binary operator are converted: their common type (6.3.1.8). The operands of a shift are promoted one by one (6.5.7), so for it
 -- that is the left one's; promoting the count changes no value.
+abbrev pub common_of_class : OperatorClass → IntType → IntType → IntType
+common_of_class arithmetic t u = usual_of t u
+common_of_class shift t u = promoted t
+common_of_class comparison t u = usual_of t u
+common_of_class classes.unary t u = usual_of t u
+common_of_class negation t u = usual_of t u
+
 abbrev pub operand_type : Op → IntType → IntType → IntType
-operand_type number.Shl t u = promoted t
-operand_type number.Shr t u = promoted t
-operand_type number.Add t u = usual_of t u
-operand_type number.Sub t u = usual_of t u
-operand_type number.Mul t u = usual_of t u
-operand_type number.Div t u = usual_of t u
-operand_type number.Rem t u = usual_of t u
-operand_type number.And t u = usual_of t u
-operand_type number.Or t u = usual_of t u
-operand_type number.Xor t u = usual_of t u
-operand_type number.Lt t u = usual_of t u
-operand_type number.Gt t u = usual_of t u
-operand_type number.Le t u = usual_of t u
-operand_type number.Ge t u = usual_of t u
-operand_type number.Eq t u = usual_of t u
-operand_type number.Ne t u = usual_of t u
-operand_type number.Neg t u = usual_of t u
-operand_type number.BitNot t u = usual_of t u
-operand_type number.Not t u = usual_of t u
+operand_type op t u = common_of_class (class_of op) t u
 
 -- what an assignment may change: a scalar, or an element, with the place of its `[`
 abbrev pub scalar_target : Object → Option Target

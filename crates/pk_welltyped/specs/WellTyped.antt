@@ -2,7 +2,8 @@
 use Rattle.std.specs.Prelude.{◌≡◌, ℕ, ◌+◌, ◌<◌, ◌≤◌, Bool, true, false, List, [], ◌∷◌, length, slice_get, All, Option, Some, None, option_map}
 use Rattle.pk_ctypes.specs.declared.types.IntType.{IntType}
 use Rattle.pk_ctypes.specs.declared.types.Op.{Op}
-use Rattle.pk_ctypes.specs.declared.types.Op.TheVariants.{Add, Sub, Mul, Div, Rem, Shl, Shr, And, Or, Xor, Lt, Gt, Le, Ge, Eq, Ne, Neg, BitNot, Not}
+use Rattle.pk_ctypes.specs.Classes.{OperatorClass, arithmetic, shift, comparison, negation, class_of}
+use Rattle.pk_ctypes.specs.Classes as classes
 use Rattle.pk_ctypes.specs.Types.{InType}
 use Rattle.pk_typed.specs.declared.values.Variable.{Variable}
 use Rattle.pk_typed.specs.declared.values.Variable.TheVariants.{File, Local}
@@ -14,26 +15,15 @@ use Rattle.pk_graph.specs.Kinds.{Kind, scalar_kind, array_kind}
 use Rattle.pk_typed.specs.Limits.{length_limit}
 
 -- how many operands an operator has
+abbrev pub operands_of : OperatorClass → ℕ
+operands_of arithmetic = 2
+operands_of shift = 2
+operands_of comparison = 2
+operands_of classes.unary = 1
+operands_of negation = 1
+
 abbrev pub operands : Op → ℕ
-operands Add = 2
-operands Sub = 2
-operands Mul = 2
-operands Div = 2
-operands Rem = 2
-operands Shl = 2
-operands Shr = 2
-operands And = 2
-operands Or = 2
-operands Xor = 2
-operands Lt = 2
-operands Gt = 2
-operands Le = 2
-operands Ge = 2
-operands Eq = 2
-operands Ne = 2
-operands Neg = 1
-operands BitNot = 1
-operands Not = 1
+operands op = operands_of (class_of op)
 
 -- ---- objects and functions
 

@@ -26,7 +26,7 @@ use Rattle.pk_type_expression.specs.Types.{type_of}
 use Rattle.pk_type_expression.specs.Typed.{EvaluatedTree, value, effect, effect_of, valued, OperandTree, operand_of, of_both, name_value, unary_value, typed_cast, is_or, logical_value, binary_value, typed_conditional, comma_after, typed, calls, calls_after}
 use Rattle.pk_type_constant.specs.declared.constants.Constant.{Constant}
 use Rattle.pk_type_constant.specs.declared.constants.Constant.TheVariants.{Number, Faulty, NotConstant}
-use Rattle.pk_type_constant.specs.Constants.{with_number, given, right_operand, calculated, converted, truth_of, chosen, constant_value, constant_effect}
+use Rattle.pk_type_constant.specs.Constants.{with_number, given, calculated, converted, truth_of, chosen, constant_value, constant_effect}
 use Rattle.pk_type_constant.specs.Forms.{both, is_constant_form}
 
 left : (a b : Bool) → both a b ≡ true → a ≡ true
@@ -75,7 +75,7 @@ given_gives (Ok n) = tt
 given_gives (Err f) = tt
 
 calculated_gives : (op : Op) (t : IntType) (a b : Constant) → Gives a → Gives b → Gives (calculated op t a b)
-calculated_gives op t a b g h = with_gives a _ g (λ m. with_gives b _ h (λ n. given_gives (operators.value_of op t (wrapped t m) (right_operand op t n))))
+calculated_gives op t a b g h = with_gives a _ g (λ m. with_gives b _ h (λ n. given_gives (operators.value_of op t (wrapped t m) (operators.right_number op t n))))
 
 converted_gives : (t : IntType) (a : Constant) → Gives a → Gives (converted t a)
 converted_gives t a g = with_gives a _ g (λ n. tt)

@@ -10,7 +10,7 @@ use Rattle.pk_ctypes.specs.declared.types.Op.{Op}
 use Rattle.pk_ctypes.specs.declared.faults.Fault.{Fault}
 use Rattle.pk_ctypes.specs.declared.faults.Fault.TheVariants as faults
 use Rattle.pk_ctypes.specs.Types.{InType, is_in_type, wrapped}
-use Rattle.pk_ctypes.specs.Operators.{result_type}
+use Rattle.pk_ctypes.specs.Operators.{result_type, right_number}
 use Rattle.pk_ctypes.proofs.Wrapped.{wrapped_in, zero_in}
 use Rattle.pk_ctypes.proofs.Values.{in_type_test}
 use Rattle.pk_graph.specs.declared.trees.Site.{Site}
@@ -202,7 +202,7 @@ item g chosen p m k h a j w v vs s b x d hs l e same f =
 renewed_value : (op : Op) (at : Site) (o t : IntType) (d c : Held) (u v z : ℤ) (m : Memory) → t ≡ d.int_type → InType d.int_type u → tree_value memory d.tree m ≡ Ok u → InType c.int_type v → tree_value memory c.tree m ≡ Ok v
     → operated op o u v ≡ Ok z → tree_value memory (updated_tree op at o t c.int_type d.tree c.tree) m ≡ Ok (wrapped t z)
 renewed_value op at o t d c u v z m is i k j l ok =
-    conversion_value (result_type op o) t (operated_tree op at o t c.int_type d.tree c.tree) z m (value_in op o (wrapped o u) (meaning.right_number op o v) z ok)
+    conversion_value (result_type op o) t (operated_tree op at o t c.int_type d.tree c.tree) z m (value_in op o (wrapped o u) (right_number op o v) z ok)
     (operated_value op at o t c.int_type d.tree c.tree u v m (subst (λ q. InType q u) (sym is) i) k j l ∙ ap (at_site at) ok)
 
 renewed_fault : (op : Op) (at : Site) (o t : IntType) (d c : Held) (u v : ℤ) (n : Fault) (m : Memory) → t ≡ d.int_type → InType d.int_type u → tree_value memory d.tree m ≡ Ok u → InType c.int_type v → tree_value memory c.tree m ≡ Ok v

@@ -8,7 +8,7 @@ use Rattle.pk_ctypes.specs.declared.types.IntType.TheVariants.{Int}
 use Rattle.pk_ctypes.specs.declared.types.Op.{Op}
 use Rattle.pk_ctypes.specs.declared.faults.Fault.{Fault}
 use Rattle.pk_ctypes.specs.Types.{InType, is_in_type, wrapped}
-use Rattle.pk_ctypes.specs.Operators.{value_of, result_type}
+use Rattle.pk_ctypes.specs.Operators.{value_of, result_type, right_number}
 use Rattle.pk_ctypes.proofs.Wrapped.{wrapped_in, zero_in, one_most}
 use Rattle.pk_ctypes.proofs.Values.{cases_of_type}
 use Rattle.pk_graph.specs.Trees.{variable, Set}
@@ -66,7 +66,7 @@ operate g chosen p m k h op at t w u v vs s b x a c hs l e same f =
     let i = operated_tree op (site_at k at) t a.int_type c.int_type a.tree c.tree in
     let is = operated_value op (site_at k at) t a.int_type c.int_type a.tree c.tree u v m e.2.1 e.2.0 e.1 e.0 in
     by_result g chosen p m (config k h (work.Operate op at t w) (v ∷ u ∷ vs) s b) at (operated op t u v) _
-    (λ z ok. still g chosen p m k h w (z ∷ vs) s x (held i (result_type op t) ∷ hs) l.0 (is ∙ ap (at_site (site_at k at)) ok, value_in op t (wrapped t u) (meaning.right_number op t v) z ok, e.2.2, tt) same f)
+    (λ z ok. still g chosen p m k h w (z ∷ vs) s x (held i (result_type op t) ∷ hs) l.0 (is ∙ ap (at_site (site_at k at)) ok, value_in op t (wrapped t u) (right_number op t v) z ok, e.2.2, tt) same f)
     (λ n err. doom g chosen k h x (steps.failure n (site_at k at)) w p (held i (result_type op t) ∷ hs) m l.0 (inl (is ∙ ap (at_site (site_at k at)) err, sound_means m hs vs e.2.2)))
 
 -- ---- scalars
@@ -104,7 +104,7 @@ update g chosen p m k h op at o t y w v vs s b x a hs l e same f =
     by_result g chosen p m (config k h (work.Update op at o t y w) (v ∷ vs) s b) at (operated op o n v) _
     (λ z ok. let q = wrapped t z in
     moved g chosen p l.0 m (with_memory (own y) (q ∷ []) m) (Set (own y) j) k h w (q ∷ vs) (with_numbers y (q ∷ []) s) (is_in_scope y h.scope) x (held (variable (own y)) t ∷ hs)
-    l.2.there (set_does chosen (own y) j q m (conversion_value (result_type op o) t i z m (value_in op o (wrapped o n) (meaning.right_number op o v) z ok) (is ∙ ap (at_site (site_at k at)) ok)))
+    l.2.there (set_does chosen (own y) j q m (conversion_value (result_type op o) t i z m (value_in op o (wrapped o n) (right_number op o v) z ok) (is ∙ ap (at_site (site_at k at)) ok)))
     (refl, l.2.shown) l.3
     (own_value y q m (subst (λ o. 0 < length (numbers_of y o)) (sym same) (is_there g.program y t s l.1 f)), wrapped_in t z, means_apart (own y) (q ∷ []) m hs vs l.2.apart e.2, tt)
     (ap (with_numbers y (q ∷ [])) same) (scalar_written g.program y t q s l.1 (wrapped_in t z) f))
@@ -122,7 +122,7 @@ advance g chosen p m k h op at o t y w vs s b x hs l e same f =
     by_result g chosen p m (config k h (work.Advance op at o t y w) vs s b) at (operated op o n (pos 1)) _
     (λ z ok. let q = wrapped t z in
     moved g chosen p l.0 m (with_memory (own y) (q ∷ []) m) (Set (own y) j) k h w vs (with_numbers y (q ∷ []) s) (is_in_scope y h.scope) x hs
-    l.2.there (set_does chosen (own y) j q m (conversion_value (result_type op o) t i z m (value_in op o (wrapped o n) (meaning.right_number op o (pos 1)) z ok) (is ∙ ap (at_site (site_at k at)) ok)))
+    l.2.there (set_does chosen (own y) j q m (conversion_value (result_type op o) t i z m (value_in op o (wrapped o n) (right_number op o (pos 1)) z ok) (is ∙ ap (at_site (site_at k at)) ok)))
     (refl, l.2.shown) l.3 (means_apart (own y) (q ∷ []) m hs vs l.2.apart e)
     (ap (with_numbers y (q ∷ [])) same) (scalar_written g.program y t q s l.1 (wrapped_in t z) f))
     (λ c err. now l.0 (Set (own y) j) l.2.there (set_fails chosen (own y) j (steps.failure c (site_at k at)) m

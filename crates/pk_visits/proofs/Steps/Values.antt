@@ -9,13 +9,13 @@ use Rattle.pk_ctypes.specs.Types.{InType, low_of, high_of, represents, wrapped}
 use Rattle.pk_ctypes.specs.Conversions.{promoted}
 use Rattle.pk_ctypes.specs.declared.types.IntType.TheVariants as types
 use Rattle.pk_ctypes.specs.declared.types.Op.TheVariants.{Add, Sub, Mul, Div, Rem, Shl, Shr, And, Or, Xor, Lt, Gt, Le, Ge, Eq, Ne, Neg, BitNot, Not}
-use Rattle.pk_ctypes.specs.Operators.{value_of, result_type}
+use Rattle.pk_ctypes.specs.Operators.{value_of, result_type, right_number}
 use Rattle.pk_ctypes.proofs.Values.{wrapped_inside, test_le}
 use Rattle.pk_graph.specs.declared.trees.Site.{Site}
 use Rattle.pk_graph.specs.Trees.{constant, variable, converted, unary, binary}
 use Rattle.pk_graph.specs.Steps.{tree_value, and_then, at_site, Failure}
 use Rattle.pk_draft.specs.Folding.{conversion, kept_if, folded, unary_tree, binary_tree, operated_tree, right_type}
-use Rattle.pk_meaning.specs.Steps.{operated, right_number}
+use Rattle.pk_meaning.specs.Steps.{operated}
 use Rattle.pk_visits.proofs.Slots.{SlotTree, Memory, memory}
 
 first_true : (a b : Bool) → (a && b) ≡ true → a ≡ true
