@@ -1,4 +1,4 @@
-mod Goes
-mod Rows
-mod Expressions
-mod Statements
+pub mod Goes
+pub mod Rows
+pub mod Expressions
+pub mod Statements

@@ -1,5 +1,5 @@
 -- The edges of each statement stay among its points, those of its marks and its exits.
-use Rattle.std.proofs.Common.{◌≡◌, ℕ, zero, suc, ◌+◌, ◌<◌, ◌≤◌, ◌⊎◌, List, [], ◌∷◌, ◌++◌, length, Bool, true, false, if◌then◌else◌, ℤ, Option, Some, None, refl, sym, subst, inl, inr, arith}
+use Rattle.std.proofs.Common.{◌≡◌, ℕ, zero, suc, ◌+◌, ◌<◌, ◌≤◌, ◌⊎◌, List, [], ◌∷◌, ◌++◌, length, Bool, true, false, if◌then◌else◌, ℤ, Option, Some, None, refl, sym, ◌∙◌, subst, inl, inr, arith}
 use Rattle.std.specs.List.{Contains}
 use Rattle.std.proofs.lemmas.List.Elements.{Contains-push_cases}
 use Rattle.pk_ctypes.specs.declared.places.Pos.{Pos}
@@ -17,6 +17,7 @@ use Rattle.pk_welltyped.specs.Marks.{one_if, times, times_in}
 use Rattle.pk_meaning.specs.Steps.{Mark, labelled, numbered, otherwise, is_label, is_case, is_default}
 use Rattle.pk_graph.specs.declared.trees.Site.{Site}
 use Rattle.pk_graph.specs.Trees.{TreeOf, constant, Skip, Clear}
+use Rattle.pk_draft.specs.declared.drafts.Region.{Region}
 use Rattle.pk_draft.specs.Drafts.{EdgeFrom, DraftOf, Given, at, on, in_scope, placed, all_placed, fresh, link, go, emit, away, come, inner, with_object}
 use Rattle.pk_draft.specs.Folding.{conversion, binary_tree}
 use Rattle.pk_lower_row.specs.declared.shapes.Waiting.TheVariants.{Strong}
@@ -30,100 +31,97 @@ use Rattle.pk_lower_statement.specs.Statements as statements
 use Rattle.pk_lower_statement.specs.Statements.{named, introduced, item, items, declared, all_declared, returned, performed_if, for_start, for_test, inside, in_switch, if_draft, loop_begun, while_draft, do_draft, for_draft, case_test, case_tests, tested, switch_begun, lowered, lowered_items}
 use Rattle.pk_visits.proofs.Settled.Trees.{mark_point}
 use Rattle.pk_visits.proofs.Grows.Statements.{IsMark, label_once, case_once}
-use Rattle.pk_edge_laws.specs.Edges.{IsNew, SplitsBy, GoesBy, NoPoint, IsOneOf, Goes, AreSized, IsExit, StatementsStay, LoopsAreEntered, IsMade}
-use Rattle.pk_edge_laws.proofs.Goes.{splits_from, splits_then, goes_then, reserving, going_on, one_edge, one_more, loosened}
+use Rattle.pk_edge_laws.specs.Edges.{IsNew, region_at, IsSame, IsLeftOut, IsTaken, IsMade, SplitsBy, GoesBy, NoPoint, IsOneOf, GoesOn, Goes, AreSized, IsExit, StatementsStay, IsPartOf, IsEnteredAt, LoopsAreEntered}
+use Rattle.pk_edge_laws.proofs.Goes.{splits_from, splits_then, goes_then, reserving, going_on, one_edge, next_out, one_more, loosened}
 use Rattle.pk_edge_laws.proofs.Rows.{Makes, Chooses, goes_trans, goes_refl, emit_goes, guards_split, held_goes}
 use Rattle.pk_edge_laws.proofs.Expressions.{front_sized, back_sized, values, effects}
 
-abbrev pub On : {V : Type 0} → (M N : ℕ → Type 0) → DraftOf V → DraftOf V → Type 0
-On M N d e = GoesBy M N d.point d.points d.edges e.point e.points e.edges
-
 -- named points, and c new ones
-abbrev New : (ℕ → Type 0) → (n c x : ℕ) → Type 0
+abbrev pub New : (ℕ → Type 0) → (n c x : ℕ) → Type 0
 New M n c x = M x ⊎ IsNew n (n + c) x
 
-with_more : {V : Type 0} (M N : ℕ → Type 0) {p n q m : ℕ} {es fs : List (EdgeFrom V)} → GoesBy NoPoint NoPoint p n es q m fs → GoesBy M N p n es q m fs
+pub with_more : {V : Type 0} {z : ℕ → ℕ} (M N : ℕ → Type 0) {p n q m : ℕ} {es fs : List (EdgeFrom V)} {rs ts : List Region} → GoesBy z NoPoint NoPoint p n es rs q m fs ts → GoesBy z M N p n es rs q m fs ts
 with_more M N {p} {n} {q} {m} a = record { point = elim a.point [ inl e ↦ inl e | inr k ↦ elim k [ inl never ↦ absurd never | inr h ↦ inr (inr h) ] ]; splits = loosened (λ x k. absurd k) (λ x k. absurd k) a.splits }
 
 -- on from a named point
-next : {V : Type 0} {M N : ℕ → Type 0} {p s n m l : ℕ} {es fs gs : List (EdgeFrom V)} → M s → SplitsBy M N p n es m fs → SplitsBy M N s m fs l gs → SplitsBy M N p n es l gs
-next {M = M} {N = N} h a b = splits_from {K = M} {L = N} (inr (inl h)) (λ x k. inl k) (λ x k. inl k) a b
+next : {V : Type 0} {z : ℕ → ℕ} {M N : ℕ → Type 0} {p s n m l : ℕ} {es fs gs : List (EdgeFrom V)} {rs ts us : List Region} → M s → SplitsBy z M N p n es rs m fs ts → SplitsBy z M N s m fs ts l gs us → SplitsBy z M N p n es rs l gs us
+next {M = M} {N = N} h a b = splits_from {K = M} {L = N} (inr (inl h)) (λ x k. k) (λ x k. k) a b
 
-leads : {V : Type 0} (M N : ℕ → Type 0) (q : ℕ) (d : DraftOf V) → N q → SplitsBy M N d.point d.points d.edges d.points (link Skip q d).edges
-leads M N q d h = one_edge M N d.point d.points d.points Skip q d.edges (omega arith) (inl h)
+pub leads : {V : Type 0} {z : ℕ → ℕ} (M N : ℕ → Type 0) (q : ℕ) (d : DraftOf V) → N q → SplitsBy z M N d.point d.points d.edges d.regions d.points (link Skip q d).edges d.regions
+leads {z = z} M N q d h = one_edge z M N d.point d.points d.points Skip q d.edges d.regions (omega arith) (inl h)
 
-chooses : {V : Type 0} (M N : ℕ → Type 0) (p q : ℕ) {a n m : ℕ} {es fs : List (EdgeFrom V)} → N p → N q → SplitsBy NoPoint (IsOneOf p q) a n es m fs → SplitsBy M N a n es m fs
+chooses : {V : Type 0} {z : ℕ → ℕ} (M N : ℕ → Type 0) (p q : ℕ) {a n m : ℕ} {es fs : List (EdgeFrom V)} {rs ts : List Region} → N p → N q → SplitsBy z NoPoint (IsOneOf p q) a n es rs m fs ts → SplitsBy z M N a n es rs m fs ts
 chooses M N p q h k s = loosened (λ x none. absurd none) (λ x e. elim e [ inl i ↦ subst N (sym i) h | inr i ↦ subst N (sym i) k ]) s
 
-away_goes : {V : Type 0} (N : ℕ → Type 0) (M : ℕ → Type 0) (q : ℕ) (d : DraftOf V) → N q → On M N d (away q d)
-away_goes N M q d h = record { point = inr (inr (omega arith, omega arith)); splits = one_edge M N d.point d.points (d.points + 1) Skip q d.edges (omega arith) (inl h) }
+pub away_goes : {V : Type 0} {z : ℕ → ℕ} (N : ℕ → Type 0) (M : ℕ → Type 0) (q : ℕ) (d : DraftOf V) → N q → GoesOn z M N d (away q d)
+away_goes {z = z} N M q d h = record { point = inr (inr (omega arith, omega arith)); splits = one_edge z M N d.point d.points (d.points + 1) Skip q d.edges d.regions (omega arith) (inl h) }
 
-come_goes : {V : Type 0} (M N : ℕ → Type 0) (q : ℕ) (d : DraftOf V) → M q → N q → On M N d (come q d)
+pub come_goes : {V : Type 0} {z : ℕ → ℕ} (M N : ℕ → Type 0) (q : ℕ) (d : DraftOf V) → M q → N q → GoesOn z M N d (come q d)
 come_goes M N q d h k = record { point = inr (inl h); splits = leads M N q d k }
 
 -- ---- declarations
 
-named_goes : {V : Type 0} (o : Option (List ℕ)) (x : ℕ) (d : DraftOf V) → Goes d (named o x d)
+named_goes : {V : Type 0} {z : ℕ → ℕ} (o : Option (List ℕ)) (x : ℕ) (d : DraftOf V) → Goes z d (named o x d)
 named_goes None x d = goes_refl d
 named_goes (Some name) x d = goes_refl d
 
-introduced_goes : {V : Type 0} (c : Context) (i : ℕ) (d : DraftOf V) → Goes d (introduced c i d)
+introduced_goes : {V : Type 0} {z : ℕ → ℕ} (c : Context) (i : ℕ) (d : DraftOf V) → Goes z d (introduced c i d)
 introduced_goes c i d = let x = local_at c i in named_goes x.name d.variables (with_object i (inner x.name x.int_type x.length c.path) d)
 
-items_go : {V : Type 0} (c : Context) (i j : ℕ) (es : ValueTrees) (d : DraftOf V) → AreSized c (calls_in_values es) → Goes d (items c i j es d)
+items_go : {V : Type 0} (z : ℕ → ℕ) (c : Context) (i j : ℕ) (es : ValueTrees) (d : DraftOf V) → AreSized z c (calls_in_values es) → Goes z d (items c i j es d)
 unfolding items calls_in_values
-items_go c i j tree.no_values d h = goes_refl d
-items_go {V} c i j (tree.value_before e es) d h =
+items_go z c i j tree.no_values d h = goes_refl d
+items_go {V} z c i j (tree.value_before e es) d h =
     let r = (ways c e).value d in
-    goes_trans ((values V c e (front_sized c (calls_in e) (calls_in_values es) h)).value d) (goes_trans (emit_goes _ r.1)
-    (items_go c i (j + 1) es (item c i j (type_of e) (ways c e) d) (back_sized c (calls_in e) (calls_in_values es) h)))
+    goes_trans ((values V z c e (front_sized z c (calls_in e) (calls_in_values es) h)).value d) (goes_trans (emit_goes _ r.1)
+    (items_go z c i (j + 1) es (item c i j (type_of e) (ways c e) d) (back_sized z c (calls_in e) (calls_in_values es) h)))
 
-scalar_first_goes : {V : Type 0} (c : Context) (i : ℕ) (e : Option ValueTree) (d : DraftOf V) → AreSized c (calls_if e) → Goes d (statements.scalar_first c i e d)
-scalar_first_goes c i None d h = emit_goes _ d
-scalar_first_goes {V} c i (Some e) d h = goes_trans ((values V c e h).value d) (emit_goes _ ((ways c e).value d).1)
+scalar_first_goes : {V : Type 0} (z : ℕ → ℕ) (c : Context) (i : ℕ) (e : Option ValueTree) (d : DraftOf V) → AreSized z c (calls_if e) → Goes z d (statements.scalar_first c i e d)
+scalar_first_goes z c i None d h = emit_goes _ d
+scalar_first_goes {V} z c i (Some e) d h = goes_trans ((values V z c e h).value d) (emit_goes _ ((ways c e).value d).1)
 
-array_first_goes : {V : Type 0} (c : Context) (i : ℕ) (es : Option ValueTrees) (d : DraftOf V) → AreSized c (calls_in_values_if es) → Goes d (statements.array_first c i es d)
-array_first_goes c i None d h = emit_goes _ d
-array_first_goes c i (Some es) d h = goes_trans (emit_goes (Clear (array_of c (Local i) d)) d) (items_go c i 0 es (emit (Clear (array_of c (Local i) d)) d) h)
+array_first_goes : {V : Type 0} (z : ℕ → ℕ) (c : Context) (i : ℕ) (es : Option ValueTrees) (d : DraftOf V) → AreSized z c (calls_in_values_if es) → Goes z d (statements.array_first c i es d)
+array_first_goes z c i None d h = emit_goes _ d
+array_first_goes z c i (Some es) d h = goes_trans (emit_goes (Clear (array_of c (Local i) d)) d) (items_go z c i 0 es (emit (Clear (array_of c (Local i) d)) d) h)
 
-declared_goes : {V : Type 0} (c : Context) (v : DeclaredTree) (d : DraftOf V) → AreSized c (calls_in_declared v) → Goes d (declared c v d)
-declared_goes c (tree.scalar_object i p e) d h = goes_trans (introduced_goes c i (on p d)) (scalar_first_goes c i e (introduced c i (on p d)) h)
-declared_goes c (tree.array_object i p es) d h = goes_trans (introduced_goes c i (on p d)) (array_first_goes c i es (introduced c i (on p d)) h)
-declared_goes c (tree.static_object i p) d h = goes_refl d
-declared_goes c (tree.hiding_constant x p) d h = goes_refl d
+pub declared_goes : {V : Type 0} (z : ℕ → ℕ) (c : Context) (v : DeclaredTree) (d : DraftOf V) → AreSized z c (calls_in_declared v) → Goes z d (declared c v d)
+declared_goes z c (tree.scalar_object i p e) d h = goes_trans (introduced_goes c i (on p d)) (scalar_first_goes z c i e (introduced c i (on p d)) h)
+declared_goes z c (tree.array_object i p es) d h = goes_trans (introduced_goes c i (on p d)) (array_first_goes z c i es (introduced c i (on p d)) h)
+declared_goes z c (tree.static_object i p) d h = goes_refl d
+declared_goes z c (tree.hiding_constant x p) d h = goes_refl d
 
-all_declared_go : {V : Type 0} (c : Context) (vs : List DeclaredTree) (d : DraftOf V) → AreSized c (calls_in_all_declared vs) → Goes d (all_declared c vs d)
+all_declared_go : {V : Type 0} (z : ℕ → ℕ) (c : Context) (vs : List DeclaredTree) (d : DraftOf V) → AreSized z c (calls_in_all_declared vs) → Goes z d (all_declared c vs d)
 unfolding all_declared
-all_declared_go c [] d h = goes_refl d
-all_declared_go c (v ∷ vs) d h =
-    goes_trans (declared_goes c v d (front_sized c (calls_in_declared v) (calls_in_all_declared vs) h))
-    (all_declared_go c vs (declared c v d) (back_sized c (calls_in_declared v) (calls_in_all_declared vs) h))
+all_declared_go z c [] d h = goes_refl d
+all_declared_go z c (v ∷ vs) d h =
+    goes_trans (declared_goes z c v d (front_sized z c (calls_in_declared v) (calls_in_all_declared vs) h))
+    (all_declared_go z c vs (declared c v d) (back_sized z c (calls_in_declared v) (calls_in_all_declared vs) h))
 
-performed_goes : {V : Type 0} (c : Context) (e : Option EffectTree) → AreSized c (calls_in_effect_if e) → Makes {V = V} (performed_if c e)
-performed_goes c None h d = goes_refl d
-performed_goes {V} c (Some e) h d = effects V c e h d
+pub performed_goes : {V : Type 0} (z : ℕ → ℕ) (c : Context) (e : Option EffectTree) → AreSized z c (calls_in_effect_if e) → Makes {V = V} z (performed_if c e)
+performed_goes z c None h d = goes_refl d
+performed_goes {V} z c (Some e) h d = effects V z c e h d
 
-test_splits : {V : Type 0} (c : Context) (e : Option ValueTree) → AreSized c (calls_if e) → Chooses {V = V} (for_test c e)
-test_splits c None h p q d = one_edge NoPoint (IsOneOf p q) d.point d.points d.points Skip p d.edges (omega arith) (inl (inl refl))
-test_splits {V} c (Some e) h p q d = (values V c e h).choice p q d
+pub test_splits : {V : Type 0} (z : ℕ → ℕ) (c : Context) (e : Option ValueTree) → AreSized z c (calls_if e) → Chooses {V = V} z (for_test c e)
+test_splits z c None h p q d = one_edge z NoPoint (IsOneOf p q) d.point d.points d.points Skip p d.edges d.regions (omega arith) (inl (inl refl))
+test_splits {V} z c (Some e) h p q d = (values V z c e h).choice p q d
 
-start_goes : {V : Type 0} (c : Context) (f : ForStartTree) → AreSized c (calls_at_start f) → Makes {V = V} (for_start c f)
-start_goes c (tree.declarations vs) h d = all_declared_go c vs d h
-start_goes c (tree.expression e) h d = performed_goes c e h d
+pub start_goes : {V : Type 0} (z : ℕ → ℕ) (c : Context) (f : ForStartTree) → AreSized z c (calls_at_start f) → Makes {V = V} z (for_start c f)
+start_goes z c (tree.declarations vs) h d = all_declared_go z c vs d h
+start_goes z c (tree.expression e) h d = performed_goes z c e h d
 
-returned_goes : {V : Type 0} (M N : ℕ → Type 0) (c : Context) (left : ℕ) (r : Option IntType) (e : Option ValueTree) → N left → AreSized c (calls_if e) → (d : DraftOf V) → On M N d (returned c left r e d)
-returned_goes M N c left None None k h d = away_goes N M left d k
-returned_goes M N c left None (Some e) k h d = away_goes N M left d k
-returned_goes M N c left (Some t) None k h d = away_goes N M left d k
-returned_goes {V} M N c left (Some t) (Some e) k h d =
+returned_goes : {V : Type 0} (z : ℕ → ℕ) (M N : ℕ → Type 0) (c : Context) (left : ℕ) (r : Option IntType) (e : Option ValueTree) → N left → AreSized z c (calls_if e) → (d : DraftOf V) → GoesOn z M N d (returned c left r e d)
+returned_goes z M N c left None None k h d = away_goes N M left d k
+returned_goes z M N c left None (Some e) k h d = away_goes N M left d k
+returned_goes z M N c left (Some t) None k h d = away_goes N M left d k
+returned_goes {V} z M N c left (Some t) (Some e) k h d =
     let r = (ways c e).value d in
     let f = rows.set_after t (type_of e) (own_result c d) r in
-    goes_then (with_more M N (goes_trans ((values V c e h).value d) (emit_goes _ r.1))) (away_goes N M left f k)
+    goes_then (with_more M N (goes_trans ((values V z c e h).value d) (emit_goes _ r.1))) (away_goes N M left f k)
 
 -- ---- branches and loops, whose parts have the new points as marks and ends
 
-abbrev Body : {V : Type 0} → (M N : ℕ → Type 0) → (n c : ℕ) → (DraftOf V → DraftOf V) → Type 0
-Body {V} M N n c f = (d : DraftOf V) → On (New M n c) (New N n c) d (f d)
+abbrev Body : {V : Type 0} → (z : ℕ → ℕ) → (M N : ℕ → Type 0) → (n c : ℕ) → (DraftOf V → DraftOf V) → Type 0
+Body {V} z M N n c f = (d : DraftOf V) → GoesOn z (New M n c) (New N n c) d (f d)
 
 -- where it stands behind a part that began at a named point
 behind : (M : ℕ → Type 0) (p s q k n m l : ℕ) → M s → k ≤ n → m ≤ l → (q ≡ s) ⊎ (M q ⊎ IsNew n m q) → (q ≡ p) ⊎ (M q ⊎ IsNew k l q)
@@ -132,8 +130,8 @@ behind M p s q k n m l h a b (inr (inl i)) = inr (inl i)
 behind M p s q k n m l h a b (inr (inr i)) = let u = i.0 in let v = i.1 in inr (inr (omega (arith, a, u), omega (arith, b, v)))
 
 -- a `while` from its head on
-while_turns : {V : Type 0} (M N : ℕ → Type 0) (w : rows.Ways V) (s : Exits → DraftOf V → DraftOf V) (x : Exits) (d : DraftOf V) → Chooses w.choice
-    → ((b k : ℕ) → IsNew d.points (d.points + 3) b → IsNew d.points (d.points + 3) k → Body M N d.points 3 (s (inside b k x))) → SplitsBy (New M d.points 3) (New N d.points 3) d.points (d.points + 3) (loop_begun d).edges (while_draft w s x d).points (while_draft w s x d).edges
+while_turns : {V : Type 0} {z : ℕ → ℕ} (M N : ℕ → Type 0) (w : rows.Ways V) (s : Exits → DraftOf V → DraftOf V) (x : Exits) (d : DraftOf V) → Chooses z w.choice
+    → ((b k : ℕ) → IsNew d.points (d.points + 3) b → IsNew d.points (d.points + 3) k → Body z M N d.points 3 (s (inside b k x))) → SplitsBy z (New M d.points 3) (New N d.points 3) d.points (d.points + 3) (loop_begun d).edges d.regions (while_draft w s x d).points (while_draft w s x d).edges (while_draft w s x d).regions
 while_turns M N w s x d c h =
     let n = d.points in
     let K = New M n 3 in
@@ -146,18 +144,18 @@ while_turns M N w s x d c h =
     (splits_then b (leads K L n (s (inside (n + 2) n x) r) (inr (omega arith, omega arith))))
 
 -- to where a loop begins again
-entering : {V : Type 0} (M N : ℕ → Type 0) (d : DraftOf V) → SplitsBy (New M d.points 3) (New N d.points 3) d.point (d.points + 3) d.edges (d.points + 3) (loop_begun d).edges
-entering M N d = one_edge (New M d.points 3) (New N d.points 3) d.point (d.points + 3) (d.points + 3) Skip d.points d.edges (omega arith) (inl (inr (omega arith, omega arith)))
+entering : {V : Type 0} {z : ℕ → ℕ} (M N : ℕ → Type 0) (d : DraftOf V) → SplitsBy z (New M d.points 3) (New N d.points 3) d.point (d.points + 3) d.edges d.regions (d.points + 3) (loop_begun d).edges d.regions
+entering {z = z} M N d = one_edge z (New M d.points 3) (New N d.points 3) d.point (d.points + 3) (d.points + 3) Skip d.points d.edges d.regions (omega arith) (inl (inr (omega arith, omega arith)))
 
-while_goes : {V : Type 0} (M N : ℕ → Type 0) (w : rows.Ways V) (s : Exits → DraftOf V → DraftOf V) (x : Exits) (d : DraftOf V) → Chooses w.choice
-    → ((b k : ℕ) → IsNew d.points (d.points + 3) b → IsNew d.points (d.points + 3) k → Body M N d.points 3 (s (inside b k x))) → On M N d (while_draft w s x d)
+while_goes : {V : Type 0} {z : ℕ → ℕ} (M N : ℕ → Type 0) (w : rows.Ways V) (s : Exits → DraftOf V → DraftOf V) (x : Exits) (d : DraftOf V) → Chooses z w.choice
+    → ((b k : ℕ) → IsNew d.points (d.points + 3) b → IsNew d.points (d.points + 3) k → Body z M N d.points 3 (s (inside b k x))) → GoesOn z M N d (while_draft w s x d)
 while_goes M N w s x d c h =
     let n = d.points in
     going_on {K = M} {L = N} {M = New M n 3} {N = New N n 3} 3 (n + 2) (omega arith, omega arith) (λ y k. k) (λ y k. k)
     (next {M = New M n 3} {N = New N n 3} (inr (omega arith, omega arith)) (entering M N d) (while_turns M N w s x d c h))
 
-do_turns : {V : Type 0} (M N : ℕ → Type 0) (p : Pos) (w : rows.Ways V) (s : Exits → DraftOf V → DraftOf V) (x : Exits) (d : DraftOf V) → Chooses w.choice
-    → ((b k : ℕ) → IsNew d.points (d.points + 3) b → IsNew d.points (d.points + 3) k → Body M N d.points 3 (s (inside b k x))) → SplitsBy (New M d.points 3) (New N d.points 3) d.points (d.points + 3) (loop_begun d).edges (do_draft p w s x d).points (do_draft p w s x d).edges
+do_turns : {V : Type 0} {z : ℕ → ℕ} (M N : ℕ → Type 0) (p : Pos) (w : rows.Ways V) (s : Exits → DraftOf V → DraftOf V) (x : Exits) (d : DraftOf V) → Chooses z w.choice
+    → ((b k : ℕ) → IsNew d.points (d.points + 3) b → IsNew d.points (d.points + 3) k → Body z M N d.points 3 (s (inside b k x))) → SplitsBy z (New M d.points 3) (New N d.points 3) d.points (d.points + 3) (loop_begun d).edges d.regions (do_draft p w s x d).points (do_draft p w s x d).edges (do_draft p w s x d).regions
 do_turns M N p w s x d c h =
     let n = d.points in
     let K = New M n 3 in
@@ -169,14 +167,14 @@ do_turns M N p w s x d c h =
     next {M = K} {N = L} (inr (omega arith, omega arith)) (splits_then b (leads K L (n + 1) e (inr (omega arith, omega arith))))
     (chooses K L n (n + 2) (inr (omega arith, omega arith)) (inr (omega arith, omega arith)) (c n (n + 2) o))
 
-do_goes : {V : Type 0} (M N : ℕ → Type 0) (p : Pos) (w : rows.Ways V) (s : Exits → DraftOf V → DraftOf V) (x : Exits) (d : DraftOf V) → Chooses w.choice
-    → ((b k : ℕ) → IsNew d.points (d.points + 3) b → IsNew d.points (d.points + 3) k → Body M N d.points 3 (s (inside b k x))) → On M N d (do_draft p w s x d)
+do_goes : {V : Type 0} {z : ℕ → ℕ} (M N : ℕ → Type 0) (p : Pos) (w : rows.Ways V) (s : Exits → DraftOf V → DraftOf V) (x : Exits) (d : DraftOf V) → Chooses z w.choice
+    → ((b k : ℕ) → IsNew d.points (d.points + 3) b → IsNew d.points (d.points + 3) k → Body z M N d.points 3 (s (inside b k x))) → GoesOn z M N d (do_draft p w s x d)
 do_goes M N p w s x d c h =
     let n = d.points in
     going_on {K = M} {L = N} {M = New M n 3} {N = New N n 3} 3 (n + 2) (omega arith, omega arith) (λ y k. k) (λ y k. k)
     (next {M = New M n 3} {N = New N n 3} (inr (omega arith, omega arith)) (entering M N d) (do_turns M N p w s x d c h))
 
-if_goes : {V : Type 0} (M N : ℕ → Type 0) (p : Pos) (w : rows.Ways V) (a b : DraftOf V → DraftOf V) (d : DraftOf V) → Chooses w.choice → Body M N d.points 2 a → Body M N d.points 2 b → On M N d (if_draft p w a b d)
+if_goes : {V : Type 0} {z : ℕ → ℕ} (M N : ℕ → Type 0) (p : Pos) (w : rows.Ways V) (a b : DraftOf V → DraftOf V) (d : DraftOf V) → Chooses z w.choice → Body z M N d.points 2 a → Body z M N d.points 2 b → GoesOn z M N d (if_draft p w a b d)
 if_goes {V} M N p w a b d c f g =
     let n = d.points in
     let K = New M n 2 in
@@ -191,13 +189,13 @@ if_goes {V} M N p w a b d c f g =
     let j = first.splits.points in
     let k = second.splits.points in
     let both = next {M = K} {N = L} (inr (omega arith, omega arith)) (next {M = K} {N = L} (inr (omega arith, omega arith)) split first.splits) second.splits in
-    let one = one_more {M = K} {N = L} (u.points + 1) t.point Skip u.points both (behind K d.point n t.point (n + 2) d1.points t.points (u.points + 1) (inr (omega arith, omega arith)) i (omega (arith, k)) first.point) (omega arith) (inr (omega (arith, i, j, k), omega arith)) in
-    let two = one_more {M = K} {N = L} (u.points + 1) u.point Skip u.points one (behind K d.point (n + 1) u.point (n + 2) t.points u.points (u.points + 1) (inr (omega arith, omega arith)) (omega (arith, i, j)) (omega arith) second.point) (omega arith) (inr (omega (arith, i, j, k), omega arith)) in
+    let one = one_more {M = K} {N = L} (u.points + 1) t.point Skip u.points both (behind K d.point n t.point (n + 2) d1.points t.points (u.points + 1) (inr (omega arith, omega arith)) i (omega (arith, k)) first.point) (omega arith) (inr ((omega (arith, i, j, k), omega arith), next_out both)) in
+    let two = one_more {M = K} {N = L} (u.points + 1) u.point Skip u.points one (behind K d.point (n + 1) u.point (n + 2) t.points u.points (u.points + 1) (inr (omega arith, omega arith)) (omega (arith, i, j)) (omega arith) second.point) (omega arith) (inr ((omega (arith, i, j, k), omega arith), next_out both)) in
     record { point = inr (inr (omega (arith, i, j, k), omega arith)); splits = reserving {K = M} {L = N} {M = K} {N = L} 2 (λ y h. h) (λ y h. h) two }
 
 -- a `for` from its head on, behind the first part, where its end is e
-for_turns : {V : Type 0} (M N : ℕ → Type 0) (p : Pos) (test : (p q : ℕ) → DraftOf V → DraftOf V) (third : DraftOf V → DraftOf V) (s : Exits → DraftOf V → DraftOf V) (x : Exits) (e : ℕ) (d : DraftOf V) → N e → Chooses test → Makes third
-    → ((k : ℕ) → IsNew d.points (d.points + 3) k → Body M N d.points 3 (s (inside e k x))) → SplitsBy (New M d.points 3) (New N d.points 3) d.points (d.points + 3) (loop_begun d).edges (statements.for_from p test third s x (d.points + 1) (d.points + 2) e (loop_begun d)).points (statements.for_from p test third s x (d.points + 1) (d.points + 2) e (loop_begun d)).edges
+for_turns : {V : Type 0} {z : ℕ → ℕ} (M N : ℕ → Type 0) (p : Pos) (test : (p q : ℕ) → DraftOf V → DraftOf V) (third : DraftOf V → DraftOf V) (s : Exits → DraftOf V → DraftOf V) (x : Exits) (e : ℕ) (d : DraftOf V) → N e → Chooses z test → Makes z third
+    → ((k : ℕ) → IsNew d.points (d.points + 3) k → Body z M N d.points 3 (s (inside e k x))) → SplitsBy z (New M d.points 3) (New N d.points 3) d.points (d.points + 3) (loop_begun d).edges d.regions (statements.for_from p test third s x (d.points + 1) (d.points + 2) e (loop_begun d)).points (statements.for_from p test third s x (d.points + 1) (d.points + 2) e (loop_begun d)).edges (statements.for_from p test third s x (d.points + 1) (d.points + 2) e (loop_begun d)).regions
 for_turns M N p test third s x e d at_end c c3 h =
     let n = d.points in
     let K = New M n 3 in
@@ -212,15 +210,15 @@ for_turns M N p test third s x e d at_end c c3 h =
     (next {M = K} {N = L} (inr (omega arith, omega arith)) (splits_then b (leads K L (n + 2) (s (inside e (n + 2) x) r) (inr (omega arith, omega arith))))
     (splits_then (with_more K L (c3 o)) (leads K L n (third o) (inr (omega arith, omega arith)))))
 
-for_splits : {V : Type 0} (M N : ℕ → Type 0) (p : Pos) (test : (p q : ℕ) → DraftOf V → DraftOf V) (third : DraftOf V → DraftOf V) (s : Exits → DraftOf V → DraftOf V) (x : Exits) (e : ℕ) (d : DraftOf V) → N e → Chooses test → Makes third
-    → ((k : ℕ) → IsNew d.points (d.points + 3) k → Body M N d.points 3 (s (inside e k x))) → SplitsBy M N d.point d.points d.edges (statements.for_from p test third s x (d.points + 1) (d.points + 2) e (loop_begun d)).points (statements.for_from p test third s x (d.points + 1) (d.points + 2) e (loop_begun d)).edges
+for_splits : {V : Type 0} {z : ℕ → ℕ} (M N : ℕ → Type 0) (p : Pos) (test : (p q : ℕ) → DraftOf V → DraftOf V) (third : DraftOf V → DraftOf V) (s : Exits → DraftOf V → DraftOf V) (x : Exits) (e : ℕ) (d : DraftOf V) → N e → Chooses z test → Makes z third
+    → ((k : ℕ) → IsNew d.points (d.points + 3) k → Body z M N d.points 3 (s (inside e k x))) → SplitsBy z M N d.point d.points d.edges d.regions (statements.for_from p test third s x (d.points + 1) (d.points + 2) e (loop_begun d)).points (statements.for_from p test third s x (d.points + 1) (d.points + 2) e (loop_begun d)).edges (statements.for_from p test third s x (d.points + 1) (d.points + 2) e (loop_begun d)).regions
 for_splits M N p test third s x e d at_end c c3 h =
     let n = d.points in
     reserving {K = M} {L = N} {M = New M n 3} {N = New N n 3} 3 (λ y k. k) (λ y k. k)
     (next {M = New M n 3} {N = New N n 3} (inr (omega arith, omega arith)) (entering M N d) (for_turns M N p test third s x e d at_end c c3 h))
 
-for_goes : {V : Type 0} (M N : ℕ → Type 0) (p : Pos) (first : DraftOf V → DraftOf V) (test : (p q : ℕ) → DraftOf V → DraftOf V) (third : DraftOf V → DraftOf V) (s : Exits → DraftOf V → DraftOf V) (x : Exits) (d : DraftOf V) → Makes first → Chooses test → Makes third
-    → ((k n : ℕ) → IsNew n (n + 3) k → Body (New M d.points 1) (New N d.points 1) n 3 (s (inside d.points k x))) → On M N d (for_draft p first test third s x d)
+for_goes : {V : Type 0} {z : ℕ → ℕ} (M N : ℕ → Type 0) (p : Pos) (first : DraftOf V → DraftOf V) (test : (p q : ℕ) → DraftOf V → DraftOf V) (third : DraftOf V → DraftOf V) (s : Exits → DraftOf V → DraftOf V) (x : Exits) (d : DraftOf V) → Makes z first → Chooses z test → Makes z third
+    → ((k n : ℕ) → IsNew n (n + 3) k → Body z (New M d.points 1) (New N d.points 1) n 3 (s (inside d.points k x))) → GoesOn z M N d (for_draft p first test third s x d)
 for_goes M N p first test third s x d c1 c c3 h =
     let n = d.points in
     let f = on p (first (fresh 1 d)) in
@@ -229,18 +227,19 @@ for_goes M N p first test third s x d c1 c c3 h =
 
 -- ---- switches
 
--- points that are placed leave the current one and the edges
-placing : {V : Type 0} (n p : ℕ) (d : DraftOf V) → ((all_placed n p d).point ≡ d.point) × ((all_placed n p d).edges ≡ d.edges)
-placing zero p d = (refl, refl)
+-- points that are placed leave the current one, the edges and the regions
+pub placing : {V : Type 0} (n p : ℕ) (d : DraftOf V) → ((all_placed n p d).point ≡ d.point) × ((all_placed n p d).edges ≡ d.edges) × ((all_placed n p d).regions ≡ d.regions)
+placing zero p d = (refl, refl, refl)
 placing (suc n) p d = placing n (p + 1) (placed p d)
 
-from_fresh : {V : Type 0} (M N : ℕ → Type 0) (n : ℕ) (d e : DraftOf V) → SplitsBy M N (fresh n d).point (fresh n d).points (fresh n d).edges e.points e.edges → SplitsBy M N d.point (d.points + n) d.edges e.points e.edges
-from_fresh M N n d e a =
-    subst (λ q. SplitsBy M N q (d.points + n) d.edges e.points e.edges) (placing n d.points d).0
-    (subst (λ es. SplitsBy M N (fresh n d).point (d.points + n) es e.points e.edges) (placing n d.points d).1 a)
+pub from_fresh : {V : Type 0} {z : ℕ → ℕ} (M N : ℕ → Type 0) (n : ℕ) (d e : DraftOf V) → SplitsBy z M N (fresh n d).point (fresh n d).points (fresh n d).edges (fresh n d).regions e.points e.edges e.regions → SplitsBy z M N d.point (d.points + n) d.edges d.regions e.points e.edges e.regions
+from_fresh {z = z} M N n d e a =
+    subst (λ q. SplitsBy z M N q (d.points + n) d.edges d.regions e.points e.edges e.regions) (placing n d.points d).0
+    (subst (λ es. SplitsBy z M N (fresh n d).point (d.points + n) es d.regions e.points e.edges e.regions) (placing n d.points d).1
+    (subst (λ rs. SplitsBy z M N (fresh n d).point (d.points + n) (fresh n d).edges rs e.points e.edges e.regions) (placing n d.points d).2 a))
 
 -- a point for each case is an end
-cases_go : {V : Type 0} (M N : ℕ → Type 0) (s : Site) (t : IntType) (r : TreeOf V) (zs : List ℤ) (p : ℕ) (d : DraftOf V) → ((i : ℕ) → i < length zs → N (p + i)) → On M N d (case_tests s t r zs p d)
+pub cases_go : {V : Type 0} {z : ℕ → ℕ} (M N : ℕ → Type 0) (s : Site) (t : IntType) (r : TreeOf V) (zs : List ℤ) (p : ℕ) (d : DraftOf V) → ((i : ℕ) → i < length zs → N (p + i)) → GoesOn z M N d (case_tests s t r zs p d)
 unfolding case_tests
 cases_go M N s t r [] p d h = with_more M N (goes_refl d)
 cases_go M N s t r (i ∷ zs) p d h =
@@ -249,15 +248,15 @@ cases_go M N s t r (i ∷ zs) p d h =
     goes_then (going_on {K = M} {L = N} {M = M} {N = New N d.points 1} 1 d.points (omega arith, omega arith) (λ y k. inl k) (λ y k. k) (chooses M (New N d.points 1) p d.points (inl here) (inr (omega arith, omega arith)) (guards_split p d.points (binary_tree Eq s t r (constant t i), fresh 1 d))))
     (cases_go M N s t r zs (p + 1) (case_test s t r i p d) (λ j l. let up : p + suc j ≡ p + 1 + j = omega arith in subst N up (h (suc j) (omega (arith, l)))))
 
-abbrev ends_of : List ℤ → Bool → ℕ
+abbrev pub ends_of : List ℤ → Bool → ℕ
 ends_of zs b = 1 + length zs + (if b then 1 else 0)
 
-default_new : (n m : ℕ) (b : Bool) → IsNew n (n + (1 + m + (if b then 1 else 0))) (if b then n + 1 + m else n)
+pub default_new : (n m : ℕ) (b : Bool) → IsNew n (n + (1 + m + (if b then 1 else 0))) (if b then n + 1 + m else n)
 default_new n m true = (omega arith, omega arith)
 default_new n m false = (omega arith, omega arith)
 
-switch_goes : {V : Type 0} (M N : ℕ → Type 0) (s : Site) (t : IntType) (zs : List ℤ) (b : Bool) (body : Exits → DraftOf V → DraftOf V) (x : Exits) (k : Given V) → Body M N k.1.points (ends_of zs b) (body (in_switch k.1.points (length zs) x))
-    → On M N k.1 (go Skip k.1.points (body (in_switch k.1.points (length zs) x) (switch_begun s t zs b k)))
+switch_goes : {V : Type 0} {z : ℕ → ℕ} (M N : ℕ → Type 0) (s : Site) (t : IntType) (zs : List ℤ) (b : Bool) (body : Exits → DraftOf V → DraftOf V) (x : Exits) (k : Given V) → Body z M N k.1.points (ends_of zs b) (body (in_switch k.1.points (length zs) x))
+    → GoesOn z M N k.1 (go Skip k.1.points (body (in_switch k.1.points (length zs) x) (switch_begun s t zs b k)))
 switch_goes M N s t zs b body x k h =
     let e = k.1.points in
     let K = New M e (ends_of zs b) in
@@ -273,11 +272,11 @@ switch_goes M N s t zs b body x k h =
 -- ---- statements
 
 -- the exits are ends
-pub record AreEnds (N : ℕ → Type 0) (x : Exits) : Type 0 where
+pub record AreEnds (N : ℕ → Type 0) (m : Marks) (x : Exits) : Type 0 where
   pub broken : N x.broken
   pub continued : N x.continued
   pub left : N x.left
-  pub labels : (l : ℕ) → N (x.labels + l)
+  pub labels : (l : ℕ) → l < m.labels → N (x.labels + l)
 
 -- the marks that stand there are named, and ends
 abbrev pub AreNamed : (M N : ℕ → Type 0) → Exits → Marks → (Mark → ℕ) → Type 0
@@ -286,8 +285,8 @@ AreNamed M N x m t = (b : Mark) → IsMark m b → (t b ≡ 0 → ⊥) → M (ma
 fewer : (M N : ℕ → Type 0) (x : Exits) (m : Marks) (t u : Mark → ℕ) → ((b : Mark) → t b ≤ u b) → AreNamed M N x m u → AreNamed M N x m t
 fewer M N x m t u le h b is some = h b is (λ none. some (let i = le b in omega (arith, i, none)))
 
-wider_ends : (N : ℕ → Type 0) (n c b k : ℕ) (x : Exits) → IsNew n (n + c) b → IsNew n (n + c) k → AreEnds N x → AreEnds (New N n c) (inside b k x)
-wider_ends N n c b k x i j e = record { broken = inr i; continued = inr j; left = inl e.left; labels = λ l. inl (e.labels l) }
+wider_ends : (N : ℕ → Type 0) (n c b k : ℕ) (m : Marks) (x : Exits) → IsNew n (n + c) b → IsNew n (n + c) k → AreEnds N m x → AreEnds (New N n c) m (inside b k x)
+wider_ends N n c b k m x i j e = record { broken = inr i; continued = inr j; left = inl e.left; labels = λ l h. inl (e.labels l h) }
 
 wider_marks : (M N : ℕ → Type 0) (n c : ℕ) (x : Exits) (m : Marks) (t : Mark → ℕ) → AreNamed M N x m t → AreNamed (New M n c) (New N n c) x m t
 wider_marks M N n c x m t h b is some = let r = h b is some in (inl r.0, inl r.1)
@@ -297,11 +296,11 @@ inside_marks M N n c i j x m t h (labelled l) is some = let r = h (labelled l) i
 inside_marks M N n c i j x m t h (numbered k) is some = let r = h (numbered k) is some in (inl r.0, inl r.1)
 inside_marks M N n c i j x m t h otherwise is some = let r = h otherwise is some in (inl r.0, inl r.1)
 
-plain_ends : (N : ℕ → Type 0) (n c : ℕ) (x : Exits) → AreEnds N x → AreEnds (New N n c) x
-plain_ends N n c x e = record { broken = inl e.broken; continued = inl e.continued; left = inl e.left; labels = λ l. inl (e.labels l) }
+plain_ends : (N : ℕ → Type 0) (n c : ℕ) (m : Marks) (x : Exits) → AreEnds N m x → AreEnds (New N n c) m x
+plain_ends N n c m x e = record { broken = inl e.broken; continued = inl e.continued; left = inl e.left; labels = λ l h. inl (e.labels l h) }
 
-switch_ends : (N : ℕ → Type 0) (n m c : ℕ) (x : Exits) → n < n + c → AreEnds N x → AreEnds (New N n c) (in_switch n m x)
-switch_ends N n m c x some e = record { broken = inr (omega arith, some); continued = inl e.continued; left = inl e.left; labels = λ l. inl (e.labels l) }
+switch_ends : (N : ℕ → Type 0) (n k c : ℕ) (b : Bool) (m : Marks) (x : Exits) → n < n + c → AreEnds N m x → AreEnds (New N n c) (WellTyped.in_switch k b m) (in_switch n k x)
+switch_ends N n k c b m x some e = record { broken = inr (omega arith, some); continued = inl e.continued; left = inl e.left; labels = λ l h. inl (e.labels l h) }
 
 switch_marks : (M N : ℕ → Type 0) (n : ℕ) (zs : List ℤ) (b : Bool) (x : Exits) (m : Marks) (t : Mark → ℕ) → AreNamed M N x m (λ q. marks.in_switch q (t q)) → AreNamed (New M n (ends_of zs b)) (New N n (ends_of zs b)) (in_switch n (length zs) x) (WellTyped.in_switch (length zs) b m) t
 switch_marks M N n zs b x m t h (labelled l) is some = let r = h (labelled l) is some in (inl r.0, inl r.1)
@@ -312,157 +311,198 @@ switch_marks M N n zs false x m t h otherwise is some = absurd (cc is)
 mutual
   unfolding lowered lowered_items IsStatement AreItems calls_in_statement calls_in_items times times_in
 
-  pub statement_goes : (V : Type 0) (M N : ℕ → Type 0) (c : Context) (a : Around) (m : Marks) (s : StatementTree) (x : Exits) (d : DraftOf V) → IsStatement a m s → AreSized c (calls_in_statement s) → AreEnds N x → AreNamed M N x m (λ b. times b s) → On M N d (lowered c s x d)
-  statement_goes V M N c a m (tree.block p is) x d f called e h = items_of V M N c a m is x d f called e h
-  statement_goes V M N c a m (tree.empty p) x d f called e h = with_more M N (goes_refl d)
-  statement_goes V M N c a m (tree.effect p v) x d f called e h = with_more M N (effects V c v called (on p d))
-  statement_goes V M N c a m (tree.label p l s) x d f called e h =
+  pub statement_goes : (V : Type 0) (z : ℕ → ℕ) (M N : ℕ → Type 0) (c : Context) (a : Around) (m : Marks) (s : StatementTree) (x : Exits) (d : DraftOf V) → IsStatement a m s → AreSized z c (calls_in_statement s) → AreEnds N m x → AreNamed M N x m (λ b. times b s) → GoesOn z M N d (lowered c s x d)
+  statement_goes V z M N c a m (tree.block p is) x d f called e h = items_of V z M N c a m is x d f called e h
+  statement_goes V z M N c a m (tree.empty p) x d f called e h = with_more M N (goes_refl d)
+  statement_goes V z M N c a m (tree.effect p v) x d f called e h = with_more M N (effects V z c v called (on p d))
+  statement_goes V z M N c a m (tree.label p l s) x d f called e h =
       let r = h (labelled l) f.0 (λ none. let i = label_once l 0 in absurd (omega (arith, none, i))) in
-      goes_then (come_goes M N (x.labels + l) (on p d) r.0 r.1) (statement_goes V M N c a m s x (come (x.labels + l) (on p d)) f.1 called e (fewer M N x m (λ b. times b s) (λ b. one_if (is_label b l) + times b s) (λ b. omega arith) h))
-  statement_goes V M N c a m (tree.case p i s) x d f called e h =
+      goes_then (come_goes M N (x.labels + l) (on p d) r.0 r.1) (statement_goes V z M N c a m s x (come (x.labels + l) (on p d)) f.1 called e (fewer M N x m (λ b. times b s) (λ b. one_if (is_label b l) + times b s) (λ b. omega arith) h))
+  statement_goes V z M N c a m (tree.case p i s) x d f called e h =
       let r = h (numbered i) f.0 (λ none. let j = case_once i 0 in absurd (omega (arith, none, j))) in
-      goes_then (come_goes M N (x.cases + i) (on p d) r.0 r.1) (statement_goes V M N c a m s x (come (x.cases + i) (on p d)) f.1 called e (fewer M N x m (λ b. times b s) (λ b. one_if (is_case b i) + times b s) (λ b. omega arith) h))
-  statement_goes V M N c a m (tree.default p s) x d f called e h =
+      goes_then (come_goes M N (x.cases + i) (on p d) r.0 r.1) (statement_goes V z M N c a m s x (come (x.cases + i) (on p d)) f.1 called e (fewer M N x m (λ b. times b s) (λ b. one_if (is_case b i) + times b s) (λ b. omega arith) h))
+  statement_goes V z M N c a m (tree.default p s) x d f called e h =
       let r = h otherwise f.0 (λ none. absurd (omega (arith, none))) in
-      goes_then (come_goes M N x.otherwise (on p d) r.0 r.1) (statement_goes V M N c a m s x (come x.otherwise (on p d)) f.1 called e (fewer M N x m (λ b. times b s) (λ b. one_if (is_default b) + times b s) (λ b. omega arith) h))
-  statement_goes V M N c a m (tree.if_then p v s) x d f called e h =
+      goes_then (come_goes M N x.otherwise (on p d) r.0 r.1) (statement_goes V z M N c a m s x (come x.otherwise (on p d)) f.1 called e (fewer M N x m (λ b. times b s) (λ b. one_if (is_default b) + times b s) (λ b. omega arith) h))
+  statement_goes V z M N c a m (tree.if_then p v s) x d f called e h =
       let K = New M d.points 2 in
       let L = New N d.points 2 in
-      if_goes M N p (ways c v) (lowered c s x) (λ r. r) d (values V c v (front_sized c (calls_in v) (calls_in_statement s) called)).choice
-      (λ r. statement_goes V K L c a m s x r f.1 (back_sized c (calls_in v) (calls_in_statement s) called) (plain_ends N d.points 2 x e) (wider_marks M N d.points 2 x m (λ b. times b s) h)) (λ r. with_more K L (goes_refl r))
-  statement_goes V M N c a m (tree.if_else p v s r) x d f called e h =
+      if_goes M N p (ways c v) (lowered c s x) (λ r. r) d (values V z c v (front_sized z c (calls_in v) (calls_in_statement s) called)).choice
+      (λ r. statement_goes V z K L c a m s x r f.1 (back_sized z c (calls_in v) (calls_in_statement s) called) (plain_ends N d.points 2 m x e) (wider_marks M N d.points 2 x m (λ b. times b s) h)) (λ r. with_more K L (goes_refl r))
+  statement_goes V z M N c a m (tree.if_else p v s r) x d f called e h =
       let K = New M d.points 2 in
       let L = New N d.points 2 in
-      let k1 = front_sized c (calls_in v ++ calls_in_statement s) (calls_in_statement r) called in
+      let k1 = front_sized z c (calls_in v ++ calls_in_statement s) (calls_in_statement r) called in
       let w = λ (b : Mark). times b s + times b r in
-      if_goes M N p (ways c v) (lowered c s x) (lowered c r x) d (values V c v (front_sized c (calls_in v) (calls_in_statement s) k1)).choice
-      (λ g. statement_goes V K L c a m s x g f.1 (back_sized c (calls_in v) (calls_in_statement s) k1) (plain_ends N d.points 2 x e) (wider_marks M N d.points 2 x m (λ b. times b s) (fewer M N x m (λ b. times b s) w (λ b. omega arith) h)))
-      (λ g. statement_goes V K L c _ m r x g f.2 (back_sized c (calls_in v ++ calls_in_statement s) (calls_in_statement r) called) (plain_ends N d.points 2 x e) (wider_marks M N d.points 2 x m (λ b. times b r) (fewer M N x m (λ b. times b r) w (λ b. omega arith) h)))
-  statement_goes V M N c a m (tree.switch p t v zs b s) x d f called e h =
+      if_goes M N p (ways c v) (lowered c s x) (lowered c r x) d (values V z c v (front_sized z c (calls_in v) (calls_in_statement s) k1)).choice
+      (λ g. statement_goes V z K L c a m s x g f.1 (back_sized z c (calls_in v) (calls_in_statement s) k1) (plain_ends N d.points 2 m x e) (wider_marks M N d.points 2 x m (λ b. times b s) (fewer M N x m (λ b. times b s) w (λ b. omega arith) h)))
+      (λ g. statement_goes V z K L c _ m r x g f.2 (back_sized z c (calls_in v ++ calls_in_statement s) (calls_in_statement r) called) (plain_ends N d.points 2 m x e) (wider_marks M N d.points 2 x m (λ b. times b r) (fewer M N x m (λ b. times b r) w (λ b. omega arith) h)))
+  statement_goes V z M N c a m (tree.switch p t v zs b s) x d f called e h =
       let o = on p d in
       let r = (ways c v).value o in
       let k = tested t (operand v (ways c v)) o in
       let n = k.1.points in
-      let valued = goes_trans ((values V c v (front_sized c (calls_in v) (calls_in_statement s) called)).value o) (held_goes Strong (converted_shape (type_of v) t (shape_of v)) t (conversion (type_of v) t r.0, r.1)) in
+      let valued = goes_trans ((values V z c v (front_sized z c (calls_in v) (calls_in_statement s) called)).value o) (held_goes Strong (converted_shape (type_of v) t (shape_of v)) t (conversion (type_of v) t r.0, r.1)) in
       goes_then (with_more M N valued) (switch_goes M N (site c p) t zs b (lowered c s) x k
-      (λ u. statement_goes V (New M n (ends_of zs b)) (New N n (ends_of zs b)) c a (WellTyped.in_switch (length zs) b m) s (in_switch n (length zs) x) u f.2 (back_sized c (calls_in v) (calls_in_statement s) called) (switch_ends N n (length zs) (ends_of zs b) x (omega arith) e) (switch_marks M N n zs b x m (λ q. times q s) h)))
-  statement_goes V M N c a m (tree.while p v s) x d f called e h =
+      (λ u. statement_goes V z (New M n (ends_of zs b)) (New N n (ends_of zs b)) c a (WellTyped.in_switch (length zs) b m) s (in_switch n (length zs) x) u f.2 (back_sized z c (calls_in v) (calls_in_statement s) called) (switch_ends N n (length zs) (ends_of zs b) b m x (omega arith) e) (switch_marks M N n zs b x m (λ q. times q s) h)))
+  statement_goes V z M N c a m (tree.while p v s) x d f called e h =
       let n = d.points in
-      while_goes M N (ways c v) (lowered c s) x (on p d) (values V c v (front_sized c (calls_in v) (calls_in_statement s) called)).choice
-      (λ i j u w r. statement_goes V (New M n 3) (New N n 3) c a m s (inside i j x) r f.1 (back_sized c (calls_in v) (calls_in_statement s) called) (wider_ends N n 3 i j x u w e) (inside_marks M N n 3 i j x m (λ b. times b s) h))
-  statement_goes V M N c a m (tree.do_while p s v) x d f called e h =
+      while_goes M N (ways c v) (lowered c s) x (on p d) (values V z c v (front_sized z c (calls_in v) (calls_in_statement s) called)).choice
+      (λ i j u w r. statement_goes V z (New M n 3) (New N n 3) c a m s (inside i j x) r f.1 (back_sized z c (calls_in v) (calls_in_statement s) called) (wider_ends N n 3 i j m x u w e) (inside_marks M N n 3 i j x m (λ b. times b s) h))
+  statement_goes V z M N c a m (tree.do_while p s v) x d f called e h =
       let n = d.points in
-      do_goes M N p (ways c v) (lowered c s) x (on p d) (values V c v (back_sized c (calls_in_statement s) (calls_in v) called)).choice
-      (λ i j u w r. statement_goes V (New M n 3) (New N n 3) c a m s (inside i j x) r f.0 (front_sized c (calls_in_statement s) (calls_in v) called) (wider_ends N n 3 i j x u w e) (inside_marks M N n 3 i j x m (λ b. times b s) h))
-  statement_goes V M N c a m (tree.for_loop p g v third s) x d f called e h =
+      do_goes M N p (ways c v) (lowered c s) x (on p d) (values V z c v (back_sized z c (calls_in_statement s) (calls_in v) called)).choice
+      (λ i j u w r. statement_goes V z (New M n 3) (New N n 3) c a m s (inside i j x) r f.0 (front_sized z c (calls_in_statement s) (calls_in v) called) (wider_ends N n 3 i j m x u w e) (inside_marks M N n 3 i j x m (λ b. times b s) h))
+  statement_goes V z M N c a m (tree.for_loop p g v third s) x d f called e h =
       let n = d.points in
-      let k1 = front_sized c (calls_at_start g ++ calls_if v ++ calls_in_effect_if third) (calls_in_statement s) called in
-      let k2 = front_sized c (calls_at_start g ++ calls_if v) (calls_in_effect_if third) k1 in
-      for_goes M N p (for_start c g) (for_test c v) (performed_if c third) (lowered c s) x (on p d) (start_goes c g (front_sized c (calls_at_start g) (calls_if v) k2)) (test_splits c v (back_sized c (calls_at_start g) (calls_if v) k2))
-      (performed_goes c third (back_sized c (calls_at_start g ++ calls_if v) (calls_in_effect_if third) k1))
-      (λ k q new r. statement_goes V (New (New M n 1) q 3) (New (New N n 1) q 3) c _ m s (inside n k x) r f.3 (back_sized c (calls_at_start g ++ calls_if v ++ calls_in_effect_if third) (calls_in_statement s) called)
-      (record { broken = inl (inr (omega arith, omega arith)); continued = inr new; left = inl (inl e.left); labels = λ l. inl (inl (e.labels l)) })
+      let k1 = front_sized z c (calls_at_start g ++ calls_if v ++ calls_in_effect_if third) (calls_in_statement s) called in
+      let k2 = front_sized z c (calls_at_start g ++ calls_if v) (calls_in_effect_if third) k1 in
+      for_goes M N p (for_start c g) (for_test c v) (performed_if c third) (lowered c s) x (on p d) (start_goes z c g (front_sized z c (calls_at_start g) (calls_if v) k2)) (test_splits z c v (back_sized z c (calls_at_start g) (calls_if v) k2))
+      (performed_goes z c third (back_sized z c (calls_at_start g ++ calls_if v) (calls_in_effect_if third) k1))
+      (λ k q new r. statement_goes V z (New (New M n 1) q 3) (New (New N n 1) q 3) c _ m s (inside n k x) r f.3 (back_sized z c (calls_at_start g ++ calls_if v ++ calls_in_effect_if third) (calls_in_statement s) called)
+      (record { broken = inl (inr (omega arith, omega arith)); continued = inr new; left = inl (inl e.left); labels = λ l i. inl (inl (e.labels l i)) })
       (inside_marks (New M n 1) (New N n 1) q 3 n k x m (λ b. times b s) (wider_marks M N n 1 x m (λ b. times b s) h)))
-  statement_goes V M N c a m (tree.goto p l) x d f called e h = away_goes N M (x.labels + l) (on p d) (e.labels l)
-  statement_goes V M N c a m (tree.continue p) x d f called e h = away_goes N M x.continued (on p d) e.continued
-  statement_goes V M N c a m (tree.break p) x d f called e h = away_goes N M x.broken (on p d) e.broken
-  statement_goes V M N c a m (tree.return p v) x d f called e h = returned_goes M N c x.left c.returns v e.left called (on p d)
+  statement_goes V z M N c a m (tree.goto p l) x d f called e h = away_goes N M (x.labels + l) (on p d) (e.labels l f)
+  statement_goes V z M N c a m (tree.continue p) x d f called e h = away_goes N M x.continued (on p d) e.continued
+  statement_goes V z M N c a m (tree.break p) x d f called e h = away_goes N M x.broken (on p d) e.broken
+  statement_goes V z M N c a m (tree.return p v) x d f called e h = returned_goes z M N c x.left c.returns v e.left called (on p d)
 
-  pub items_of : (V : Type 0) (M N : ℕ → Type 0) (c : Context) (a : Around) (m : Marks) (is : ItemTrees) (x : Exits) (d : DraftOf V) → AreItems a m is → AreSized c (calls_in_items is) → AreEnds N x → AreNamed M N x m (λ b. times_in b is) → On M N d (lowered_items c is x d)
-  items_of V M N c a m tree.no_items x d f called e h = with_more M N (goes_refl d)
-  items_of V M N c a m (tree.declared_before v is) x d f called e h =
-      goes_then (with_more M N (declared_goes c v d (front_sized c (calls_in_declared v) (calls_in_items is) called)))
-      (items_of V M N c _ m is x (declared c v d) f.1 (back_sized c (calls_in_declared v) (calls_in_items is) called) e h)
-  items_of V M N c a m (tree.statement_before s is) x d f called e h =
+  pub items_of : (V : Type 0) (z : ℕ → ℕ) (M N : ℕ → Type 0) (c : Context) (a : Around) (m : Marks) (is : ItemTrees) (x : Exits) (d : DraftOf V) → AreItems a m is → AreSized z c (calls_in_items is) → AreEnds N m x → AreNamed M N x m (λ b. times_in b is) → GoesOn z M N d (lowered_items c is x d)
+  items_of V z M N c a m tree.no_items x d f called e h = with_more M N (goes_refl d)
+  items_of V z M N c a m (tree.declared_before v is) x d f called e h =
+      goes_then (with_more M N (declared_goes z c v d (front_sized z c (calls_in_declared v) (calls_in_items is) called)))
+      (items_of V z M N c _ m is x (declared c v d) f.1 (back_sized z c (calls_in_declared v) (calls_in_items is) called) e h)
+  items_of V z M N c a m (tree.statement_before s is) x d f called e h =
       let w = λ (b : Mark). times b s + times_in b is in
-      goes_then (statement_goes V M N c a m s x d f.0 (front_sized c (calls_in_statement s) (calls_in_items is) called) e (fewer M N x m (λ b. times b s) w (λ b. omega arith) h))
-      (items_of V M N c _ m is x (lowered c s x d) f.1 (back_sized c (calls_in_statement s) (calls_in_items is) called) e (fewer M N x m (λ b. times_in b is) w (λ b. omega arith) h))
+      goes_then (statement_goes V z M N c a m s x d f.0 (front_sized z c (calls_in_statement s) (calls_in_items is) called) e (fewer M N x m (λ b. times b s) w (λ b. omega arith) h))
+      (items_of V z M N c _ m is x (lowered c s x d) f.1 (back_sized z c (calls_in_statement s) (calls_in_items is) called) e (fewer M N x m (λ b. times_in b is) w (λ b. omega arith) h))
 
 -- ---- the laws
 
 no_marks : (M N : ℕ → Type 0) (x : Exits) (m : Marks) (t : Mark → ℕ) → ((b : Mark) → t b ≡ 0) → AreNamed M N x m t
 no_marks M N x m t none b is some = absurd (some (none b))
 
-exits : (x : Exits) → AreEnds (IsExit x) x
-exits x = record { broken = inl refl; continued = inr (inl refl); left = inr (inr (inl refl)); labels = λ l. inr (inr (inr (l, refl))) }
+exits : (m : Marks) (x : Exits) → AreEnds (IsExit m x) m x
+exits m x = record { broken = inl refl; continued = inr (inl refl); left = inr (inr (inl refl)); labels = λ l h. inr (inr (inr (l, h, refl))) }
 
 pub statements_stay : {V : Type 0} → StatementsStay V
-statements_stay {V} c a m s x d f called none = statement_goes V NoPoint (IsExit x) c a m s x d f called (exits x) (no_marks NoPoint (IsExit x) x m (λ b. times b s) none)
+statements_stay {V} z c a m s x d f called none = statement_goes V z NoPoint (IsExit m x) c a m s x d f called (exits m x) (no_marks NoPoint (IsExit m x) x m (λ b. times b s) none)
+
+-- an edge of the loop begins at its points, or it is the one from q to h
+abbrev Enters : {V : Type 0} → (q h l : ℕ) → EdgeFrom V → Type 0
+Enters q h l f = IsNew h l f.from ⊎ ((f.from ≡ q) × (f.to ≡ h))
+
+-- where a form from the head on begins
+in_loop : {x : ℕ} (n l : ℕ) → n + 3 ≤ l → (x ≡ n) ⊎ (New NoPoint n 3 x ⊎ IsNew (n + 3) l x) → IsNew n l x
+in_loop n l more (inl e) = (omega (arith, e), omega (arith, e, more))
+in_loop n l more (inr (inl (inl never))) = absurd never
+in_loop n l more (inr (inl (inr k))) = let v = k.1 in (k.0, omega (arith, v, more))
+in_loop n l more (inr (inr k)) = let u = k.0 in (omega (arith, u), k.1)
 
 -- what is made from the head on begins there or behind it, and one edge leads to it
-begun_again : {V : Type 0} {N : ℕ → Type 0} (d e : DraftOf V) (l : ℕ) → d.points + 3 ≤ l → SplitsBy (New NoPoint d.points 3) N d.points (d.points + 3) (loop_begun d).edges l e.edges → (f : EdgeFrom V) → Contains e.edges f → Contains d.edges f ⊎ (IsNew d.points l f.from ⊎ (f.to ≡ d.points))
-begun_again {V} {N} d e l more a f h = by (a.edges f h) where
+begun_again : {V : Type 0} {z : ℕ → ℕ} {N : ℕ → Type 0} (d e : DraftOf V) → SplitsBy z (New NoPoint d.points 3) N d.points (d.points + 3) (loop_begun d).edges d.regions e.points e.edges e.regions → (f : EdgeFrom V) → Contains e.edges f → Contains d.edges f ⊎ Enters d.point d.points e.points f
+begun_again {V} {z} {N} d e a f h = by (a.edges f h) where
   n : ℕ
   n = d.points
 
-  old : Contains d.edges f ⊎ ((let g : EdgeFrom V = record { from = d.point; instr = Skip; to = n } in g) ≡ f) → Contains d.edges f ⊎ (IsNew n l f.from ⊎ (f.to ≡ n))
+  l : ℕ
+  l = e.points
+
+  more : n + 3 ≤ l
+  more = a.points
+
+  first : EdgeFrom V
+  first = record { from = d.point; instr = Skip; to = n }
+
+  old : Contains d.edges f ⊎ (first ≡ f) → Contains d.edges f ⊎ Enters d.point n l f
   old (inl k) = inl k
-  old (inr s) = inr (inr (subst (λ (g : EdgeFrom V). g.to ≡ n) s refl))
+  old (inr s) = inr (inr (subst (λ (g : EdgeFrom V). (g.from ≡ d.point) × (g.to ≡ n)) s (refl, refl)))
 
-  new : (f.from ≡ n) ⊎ (New NoPoint n 3 f.from ⊎ IsNew (n + 3) l f.from) → IsNew n l f.from
-  new (inl e) = (omega (arith, e), omega (arith, e, more))
-  new (inr (inl (inl never))) = absurd never
-  new (inr (inl (inr k))) = let v = k.1 in (k.0, omega (arith, v, more))
-  new (inr (inr k)) = let u = k.0 in (omega (arith, u), k.1)
+  by : Contains (loop_begun d).edges f ⊎ IsMade z (New NoPoint n 3) N n (n + 3) d.regions l e.regions f → Contains d.edges f ⊎ Enters d.point n l f
+  by (inl k) = old (Contains-push_cases d.edges first f k)
+  by (inr k) = inr (inl (in_loop n l more k.begins))
 
-  by : Contains (loop_begun d).edges f ⊎ IsMade (New NoPoint n 3) N n (n + 3) l f → Contains d.edges f ⊎ (IsNew n l f.from ⊎ (f.to ≡ n))
-  by (inl k) = old (Contains-push_cases d.edges (record { from = d.point; instr = Skip; to = n }) f k)
-  by (inr k) = inr (inl (new k.begins))
+-- and so do the parts of paths that are called
+within : {V : Type 0} {z : ℕ → ℕ} {N : ℕ → Type 0} (d e : DraftOf V) → SplitsBy z (New NoPoint d.points 3) N d.points (d.points + 3) (loop_begun d).edges d.regions e.points e.edges e.regions → (j : ℕ) → IsSame d.regions e.regions j ⊎ IsPartOf d.points e.points (z j) (region_at e.regions j)
+within {z = z} d e a j = elim (a.regions j) [
+  | inl k ↦ inl k
+  | inr t ↦ inr (inr (in_loop d.points e.points a.points t.begins, (let u = t.from in omega (arith, u)), t.to))
+]
 
-entered_there : {V : Type 0} (d e : DraftOf V) (h l : ℕ) → ((f : EdgeFrom V) → Contains e.edges f → Contains d.edges f ⊎ (IsNew h l f.from ⊎ (f.to ≡ h))) → (f : EdgeFrom V) → Contains e.edges f → Contains d.edges f ⊎ (IsNew h l f.from ⊎ (IsNew h l f.to → f.to ≡ h))
-entered_there d e h l k f c = elim (k f c) [ inl i ↦ inl i | inr i ↦ elim i [ inl j ↦ inr (inl j) | inr j ↦ inr (inr (λ new. j)) ] ]
+-- before it is a first part
+behind_start : {V : Type 0} {z : ℕ → ℕ} {p n : ℕ} (d b e : DraftOf V) (q h l : ℕ) → n ≤ h → SplitsBy z NoPoint NoPoint p n d.edges d.regions h b.edges b.regions → ((f : EdgeFrom V) → Contains e.edges f → Contains b.edges f ⊎ Enters q h l f)
+    → (f : EdgeFrom V) → Contains e.edges f → Contains d.edges f ⊎ ((f.to ≡ 0) ⊎ (IsNew h l f.from ⊎ (IsNew h l f.to → (f.from ≡ q) × (f.to ≡ h))))
+behind_start {V} {z} {p} {n} d b e q h l le a k f c = by (k f c) where
+  Out : Type 0
+  Out = Contains d.edges f ⊎ ((f.to ≡ 0) ⊎ (IsNew h l f.from ⊎ (IsNew h l f.to → (f.from ≡ q) × (f.to ≡ h))))
 
--- the edges of the first part of a `for` lead to points before its head
-behind_start : {V : Type 0} {p n : ℕ} (d b e : DraftOf V) (h l : ℕ) → n ≤ h → SplitsBy NoPoint NoPoint p n d.edges h b.edges → ((f : EdgeFrom V) → Contains e.edges f → Contains b.edges f ⊎ (IsNew h l f.from ⊎ (f.to ≡ h))) → (f : EdgeFrom V) → Contains e.edges f → Contains d.edges f ⊎ (IsNew h l f.from ⊎ (IsNew h l f.to → f.to ≡ h))
-behind_start {V} {p} {n} d b e h l le a k f c = by (k f c) where
-  never : (f.to ≡ 0) ⊎ (NoPoint f.to ⊎ IsNew n h f.to) → IsNew h l f.to → f.to ≡ h
-  never (inl none) i = let u = i.0 in omega (arith, none, u)
-  never (inr (inl no_point)) i = absurd no_point
-  never (inr (inr j)) i = let u = i.0 in let v = j.1 in absurd (omega (arith, u, v))
+  made : (f.to ≡ 0) ⊎ (NoPoint f.to ⊎ (IsNew n h f.to × IsLeftOut z d.regions b.regions f.to)) → Out
+  made (inl none) = inr (inl none)
+  made (inr (inl never)) = absurd never
+  made (inr (inr j)) = inr (inr (inr (λ i. let u = i.0 in let v = j.0.1 in absurd (omega (arith, u, v)))))
 
-  first : Contains d.edges f ⊎ IsMade NoPoint NoPoint p n h f → Contains d.edges f ⊎ (IsNew h l f.from ⊎ (IsNew h l f.to → f.to ≡ h))
+  first : Contains d.edges f ⊎ IsMade z NoPoint NoPoint p n d.regions h b.regions f → Out
   first (inl i) = inl i
-  first (inr i) = inr (inr (never i.leads))
+  first (inr i) = made i.leads
 
-  by : Contains b.edges f ⊎ (IsNew h l f.from ⊎ (f.to ≡ h)) → Contains d.edges f ⊎ (IsNew h l f.from ⊎ (IsNew h l f.to → f.to ≡ h))
+  by : Contains b.edges f ⊎ Enters q h l f → Out
   by (inl i) = first (a.edges f i)
-  by (inr (inl i)) = inr (inl i)
-  by (inr (inr i)) = inr (inr (λ new. i))
+  by (inr (inl i)) = inr (inr (inl i))
+  by (inr (inr i)) = inr (inr (inr (λ new. i)))
+
+behind_regions : {V : Type 0} {z : ℕ → ℕ} {p n : ℕ} (d b e : DraftOf V) (h l : ℕ) → SplitsBy z NoPoint NoPoint p n d.edges d.regions h b.edges b.regions → ((j : ℕ) → IsSame b.regions e.regions j ⊎ IsPartOf h l (z j) (region_at e.regions j))
+    → (j : ℕ) → IsSame d.regions e.regions j ⊎ IsPartOf h l (z j) (region_at e.regions j)
+behind_regions {V} {z} {p} {n} d b e h l a k j = by (a.regions j) (k j) where
+  by : IsSame d.regions b.regions j ⊎ IsTaken NoPoint p n h (z j) (region_at b.regions j) → IsSame b.regions e.regions j ⊎ IsPartOf h l (z j) (region_at e.regions j) → IsSame d.regions e.regions j ⊎ IsPartOf h l (z j) (region_at e.regions j)
+  by (inl i) (inl o) = inl (o ∙ i)
+  by (inr t) (inl o) = inr (subst (IsPartOf h l (z j)) (sym o) (inl t.to))
+  by i (inr o) = inr o
+
+entered : {V : Type 0} (z : ℕ → ℕ) {N : ℕ → Type 0} (d e : DraftOf V) → SplitsBy z (New NoPoint d.points 3) N d.points (d.points + 3) (loop_begun d).edges d.regions e.points e.edges e.regions → IsEnteredAt z d e d.point d.points
+entered z d e a = record {
+  behind = omega arith;
+  before = let more = a.points in omega (arith, more);
+  edges = λ f h. elim (begun_again d e a f h) [ inl i ↦ inl i | inr i ↦ inr (inr (elim i [ inl j ↦ inl j | inr j ↦ inr (λ new. j) ])) ];
+  regions = within d e a;
+}
 
 pub loops_are_entered : {V : Type 0} → LoopsAreEntered V
 unfolding lowered IsStatement calls_in_statement times
 loops_are_entered {V} = record {
-  while = λ c a m p v s x d f called none.
+  while = λ z c a m p v s x d f called none.
       let n = d.points in
       let o = on p d in
-      let t = while_turns NoPoint (IsExit x) (ways c v) (lowered c s) x o (values V c v (front_sized c (calls_in v) (calls_in_statement s) called)).choice
-      (λ i j u w r. statement_goes V (New NoPoint n 3) (New (IsExit x) n 3) c a m s (inside i j x) r f.1 (back_sized c (calls_in v) (calls_in_statement s) called) (wider_ends (IsExit x) n 3 i j x u w (exits x)) (no_marks (New NoPoint n 3) (New (IsExit x) n 3) (inside i j x) m (λ b. times b s) none)) in
-      let e = while_draft (ways c v) (lowered c s) x o in
-      let more = t.points in
-      record { behind = omega arith; before = omega (arith, more); edges = entered_there d e n e.points (begun_again o e e.points more t) };
-  do_while = λ c a m p s v x d f called none.
+      let t = while_turns {z = z} NoPoint (IsExit m x) (ways c v) (lowered c s) x o (values V z c v (front_sized z c (calls_in v) (calls_in_statement s) called)).choice
+      (λ i j u w r. statement_goes V z (New NoPoint n 3) (New (IsExit m x) n 3) c a m s (inside i j x) r f.1 (back_sized z c (calls_in v) (calls_in_statement s) called) (wider_ends (IsExit m x) n 3 i j m x u w (exits m x)) (no_marks (New NoPoint n 3) (New (IsExit m x) n 3) (inside i j x) m (λ b. times b s) none)) in
+      let r = entered z o (while_draft (ways c v) (lowered c s) x o) t in
+      record { behind = r.behind; before = r.before; edges = r.edges; regions = r.regions };
+  do_while = λ z c a m p s v x d f called none.
       let n = d.points in
       let o = on p d in
-      let t = do_turns NoPoint (IsExit x) p (ways c v) (lowered c s) x o (values V c v (back_sized c (calls_in_statement s) (calls_in v) called)).choice
-      (λ i j u w r. statement_goes V (New NoPoint n 3) (New (IsExit x) n 3) c a m s (inside i j x) r f.0 (front_sized c (calls_in_statement s) (calls_in v) called) (wider_ends (IsExit x) n 3 i j x u w (exits x)) (no_marks (New NoPoint n 3) (New (IsExit x) n 3) (inside i j x) m (λ b. times b s) none)) in
-      let e = do_draft p (ways c v) (lowered c s) x o in
-      let more = t.points in
-      record { behind = omega arith; before = omega (arith, more); edges = entered_there d e n e.points (begun_again o e e.points more t) };
-  for_loop = λ c a m p g v third s x d f called none.
+      let t = do_turns {z = z} NoPoint (IsExit m x) p (ways c v) (lowered c s) x o (values V z c v (back_sized z c (calls_in_statement s) (calls_in v) called)).choice
+      (λ i j u w r. statement_goes V z (New NoPoint n 3) (New (IsExit m x) n 3) c a m s (inside i j x) r f.0 (front_sized z c (calls_in_statement s) (calls_in v) called) (wider_ends (IsExit m x) n 3 i j m x u w (exits m x)) (no_marks (New NoPoint n 3) (New (IsExit m x) n 3) (inside i j x) m (λ b. times b s) none)) in
+      let r = entered z o (do_draft p (ways c v) (lowered c s) x o) t in
+      record { behind = r.behind; before = r.before; edges = r.edges; regions = r.regions };
+  for_loop = λ z c a m p g v third s x d f called none.
       let n = d.points in
       let o = on p d in
-      let k1 = front_sized c (calls_at_start g ++ calls_if v ++ calls_in_effect_if third) (calls_in_statement s) called in
-      let k2 = front_sized c (calls_at_start g ++ calls_if v) (calls_in_effect_if third) k1 in
-      let begin = start_goes c g (front_sized c (calls_at_start g) (calls_if v) k2) (fresh 1 o) in
+      let k1 = front_sized z c (calls_at_start g ++ calls_if v ++ calls_in_effect_if third) (calls_in_statement s) called in
+      let k2 = front_sized z c (calls_at_start g ++ calls_if v) (calls_in_effect_if third) k1 in
+      let begin = start_goes z c g (front_sized z c (calls_at_start g) (calls_if v) k2) (fresh 1 o) in
       let b = on p (for_start c g (fresh 1 o)) in
       let h = b.points in
-      let t = for_turns NoPoint (New (IsExit x) n 1) p (for_test c v) (performed_if c third) (lowered c s) x n b (inr (omega arith, omega arith)) (test_splits c v (back_sized c (calls_at_start g) (calls_if v) k2))
-      (performed_goes c third (back_sized c (calls_at_start g ++ calls_if v) (calls_in_effect_if third) k1))
-      (λ k new r. statement_goes V (New NoPoint h 3) (New (New (IsExit x) n 1) h 3) c _ m s (inside n k x) r f.3 (back_sized c (calls_at_start g ++ calls_if v ++ calls_in_effect_if third) (calls_in_statement s) called)
-      (record { broken = inl (inr (omega arith, omega arith)); continued = inr new; left = inl (inl (exits x).left); labels = λ l. inl (inl ((exits x).labels l)) })
-      (no_marks (New NoPoint h 3) (New (New (IsExit x) n 1) h 3) (inside n k x) m (λ q. times q s) none)) in
+      let t = for_turns {z = z} NoPoint (New (IsExit m x) n 1) p (for_test c v) (performed_if c third) (lowered c s) x n b (inr (omega arith, omega arith)) (test_splits z c v (back_sized z c (calls_at_start g) (calls_if v) k2))
+      (performed_goes z c third (back_sized z c (calls_at_start g ++ calls_if v) (calls_in_effect_if third) k1))
+      (λ k new r. statement_goes V z (New NoPoint h 3) (New (New (IsExit m x) n 1) h 3) c _ m s (inside n k x) r f.3 (back_sized z c (calls_at_start g ++ calls_if v ++ calls_in_effect_if third) (calls_in_statement s) called)
+      (record { broken = inl (inr (omega arith, omega arith)); continued = inr new; left = inl (inl (exits m x).left); labels = λ l i. inl (inl ((exits m x).labels l i)) })
+      (no_marks (New NoPoint h 3) (New (New (IsExit m x) n 1) h 3) (inside n k x) m (λ q. times q s) none)) in
       let e = for_draft p (for_start c g) (for_test c v) (performed_if c third) (lowered c s) x o in
-      let more = t.points in
       let start = begin.splits.points in
-      record { behind = omega (arith, start); before = omega (arith, more); edges = behind_start d b e h e.points start begin.splits (begun_again b e e.points more t) };
+      let more = t.points in
+      record {
+        behind = omega (arith, start);
+        before = omega (arith, more);
+        edges = behind_start {z = z} d b e b.point h e.points start begin.splits (begun_again b e t);
+        regions = behind_regions {z = z} d b e h e.points begin.splits (within b e t);
+      };
 }

@@ -1,14 +1,16 @@
 -- Where the edges that the lowering makes begin, and where they lead.
-use Rattle.std.specs.Prelude.{◌≡◌, ◌⊎◌, ℕ, ◌+◌, ◌<◌, ◌≤◌, List, [], ◌∷◌, Contains, Option}
+use Rattle.std.specs.Prelude.{◌≡◌, ◌⊎◌, ℕ, ◌+◌, ◌<◌, ◌≤◌, List, [], ◌∷◌, Contains, Option, slice_index_or}
 use Rattle.pk_ctypes.specs.declared.places.Pos.{Pos}
 use Rattle.pk_typed.specs.Trees.{ValueTree, EffectTree, ForStartTree, StatementTree}
 use Rattle.pk_typed.specs.Trees as tree
-use Rattle.pk_draft.specs.Drafts.{EdgeFrom, DraftOf, nowhere, fresh, on}
+use Rattle.pk_draft.specs.declared.drafts.Region.{Region}
+use Rattle.pk_draft.specs.declared.drafts.Size.{Size}
+use Rattle.pk_draft.specs.Drafts.{EdgeFrom, DraftOf, nowhere, no_region, fresh, on}
 use Rattle.pk_welltyped.specs.Listed.{Numbered, calls_in, calls_in_effect, calls_in_statement}
 use Rattle.pk_welltyped.specs.WellTyped.{Around, Marks, IsStatement}
 use Rattle.pk_welltyped.specs.Marks.{times}
 use Rattle.pk_meaning.specs.Steps.{Mark}
-use Rattle.pk_lower_row.specs.Contexts.{Context, size_in}
+use Rattle.pk_lower_row.specs.Contexts.{Context, callee, size_in}
 use Rattle.pk_lower_expression.specs.Expressions.{ways, performed}
 use Rattle.pk_lower_statement.specs.declared.statements.Exits.{Exits}
 use Rattle.pk_lower_statement.specs.Statements.{for_start, lowered}
@@ -17,22 +19,49 @@ use Rattle.pk_lower_statement.specs.Statements.{for_start, lowered}
 abbrev pub IsNew : (n m x : ℕ) → Type 0
 IsNew n m x = (n ≤ x) × (x < m)
 
--- It begins at the current point p, at a point of M, or at a new one; it leads to a point of N, to a new one, or isn't made.
-pub record IsMade {V : Type 0} (M N : ℕ → Type 0) (p n m : ℕ) (e : EdgeFrom V) : Type 0 where
-  pub begins : (e.from ≡ p) ⊎ (M e.from ⊎ IsNew n m e.from)
-  pub leads : (e.to ≡ nowhere) ⊎ (N e.to ⊎ IsNew n m e.to)
+-- ---- regions, which calls leave to the parts of paths
 
--- Points are added, and edges that are made so.
-pub record SplitsBy {V : Type 0} (M N : ℕ → Type 0) (p n : ℕ) (es : List (EdgeFrom V)) (m : ℕ)
-    (fs : List (EdgeFrom V)) : Type 0 where
+abbrev pub region_at : List Region → (path : ℕ) → Region
+region_at rs j = slice_index_or rs j no_region
+
+-- the path's region stays
+abbrev pub IsSame : (rs ts : List Region) → (path : ℕ) → Type 0
+IsSame rs ts j = region_at ts j ≡ region_at rs j
+
+-- behind the exit of a region of so many points
+abbrev pub IsBehindExit : (size : ℕ) → Region → ℕ → Type 0
+IsBehindExit n r x = (r.points < x) × (x < r.points + n)
+
+-- it isn't left to any path, where the part of each makes as many points as z says
+abbrev pub IsLeftOut : (z : ℕ → ℕ) → (rs ts : List Region) → ℕ → Type 0
+IsLeftOut z rs ts x = (j : ℕ) → IsSame rs ts j ⊎ (IsBehindExit (z j) (region_at ts j) x → ⊥)
+
+-- It begins at the current point p, at a point of M, or at a new one; its points are new.
+pub record IsTaken (M : ℕ → Type 0) (p n m size : ℕ) (r : Region) : Type 0 where
+  pub begins : (r.at ≡ p) ⊎ (M r.at ⊎ IsNew n m r.at)
+  pub from : n ≤ r.points
+  pub to : r.points + size ≤ m
+
+-- ---- edges
+
+-- It begins at the current point p, at a point of M, or at a new one; it leads to a point of N, to a new one that is left to no path, or isn't made.
+pub record IsMade {V : Type 0} (z : ℕ → ℕ) (M N : ℕ → Type 0) (p n : ℕ) (rs : List Region) (m : ℕ) (ts : List Region)
+    (e : EdgeFrom V) : Type 0 where
+  pub begins : (e.from ≡ p) ⊎ (M e.from ⊎ IsNew n m e.from)
+  pub leads : (e.to ≡ nowhere) ⊎ (N e.to ⊎ (IsNew n m e.to × IsLeftOut z rs ts e.to))
+
+-- Points are added, edges that are made so, and regions that are taken of the points.
+pub record SplitsBy {V : Type 0} (z : ℕ → ℕ) (M N : ℕ → Type 0) (p n : ℕ) (es : List (EdgeFrom V)) (rs : List Region)
+    (m : ℕ) (fs : List (EdgeFrom V)) (ts : List Region) : Type 0 where
   pub points : n ≤ m
-  pub edges : (e : EdgeFrom V) → Contains fs e → Contains es e ⊎ IsMade M N p n m e
+  pub edges : (e : EdgeFrom V) → Contains fs e → Contains es e ⊎ IsMade z M N p n rs m ts e
+  pub regions : (j : ℕ) → IsSame rs ts j ⊎ IsTaken M p n m (z j) (region_at ts j)
 
 -- and it goes on at q, which is the current point, a point of M or a new one
-pub record GoesBy {V : Type 0} (M N : ℕ → Type 0) (p n : ℕ) (es : List (EdgeFrom V)) (q m : ℕ)
-    (fs : List (EdgeFrom V)) : Type 0 where
+pub record GoesBy {V : Type 0} (z : ℕ → ℕ) (M N : ℕ → Type 0) (p n : ℕ) (es : List (EdgeFrom V)) (rs : List Region)
+    (q m : ℕ) (fs : List (EdgeFrom V)) (ts : List Region) : Type 0 where
   pub point : (q ≡ p) ⊎ (M q ⊎ IsNew n m q)
-  pub splits : SplitsBy M N p n es m fs
+  pub splits : SplitsBy z M N p n es rs m fs ts
 
 abbrev pub NoPoint : ℕ → Type 0
 NoPoint x = ⊥
@@ -40,55 +69,78 @@ NoPoint x = ⊥
 abbrev pub IsOneOf : (p q x : ℕ) → Type 0
 IsOneOf p q x = (x ≡ p) ⊎ (x ≡ q)
 
-abbrev pub Splits : {V : Type 0} → (N : ℕ → Type 0) → DraftOf V → DraftOf V → Type 0
-Splits N d e = SplitsBy NoPoint N d.point d.points d.edges e.points e.edges
+abbrev pub Splits : {V : Type 0} → (z : ℕ → ℕ) → (N : ℕ → Type 0) → DraftOf V → DraftOf V → Type 0
+Splits z N d e = SplitsBy z NoPoint N d.point d.points d.edges d.regions e.points e.edges e.regions
 
-abbrev pub Goes : {V : Type 0} → DraftOf V → DraftOf V → Type 0
-Goes d e = GoesBy NoPoint NoPoint d.point d.points d.edges e.point e.points e.edges
+abbrev pub GoesOn : {V : Type 0} → (z : ℕ → ℕ) → (M N : ℕ → Type 0) → DraftOf V → DraftOf V → Type 0
+GoesOn z M N d e = GoesBy z M N d.point d.points d.edges d.regions e.point e.points e.edges e.regions
 
--- a part that a call leads to has a point, its exit
-abbrev pub AreSized : Context → List Numbered → Type 0
-AreSized c [] = Unit {0}
-AreSized c (x ∷ xs) = (0 < (size_in c.sizes x.call.function).points) × AreSized c xs
+abbrev pub Goes : {V : Type 0} → (z : ℕ → ℕ) → DraftOf V → DraftOf V → Type 0
+Goes z d e = GoesOn z NoPoint NoPoint d e
+
+-- the part of a path that a call leads to has so many points, of which one is its exit
+abbrev pub HasPoints : ℕ → Size → Type 0
+HasPoints n s = (s.points ≡ n) × (0 < s.points)
+
+abbrev pub AreSized : (z : ℕ → ℕ) → Context → List Numbered → Type 0
+AreSized z c [] = Unit {0}
+AreSized z c (x ∷ xs) = HasPoints (z (callee c x.number)) (size_in c.sizes x.call.function) × AreSized z c xs
 
 -- The edges of a value and of an effect stay among new points and the current one; those of a choice lead to its two ends too.
 pub record ExpressionsStay (V : Type 0) : Type 0 where
-  pub value : (c : Context) (e : ValueTree) (d : DraftOf V) → AreSized c (calls_in e) → Goes d ((ways c e).value d).1
-  pub choice : (c : Context) (e : ValueTree) (p q : ℕ) (d : DraftOf V) → AreSized c (calls_in e) →
-      Splits (IsOneOf p q) d ((ways c e).choice p q d)
-  pub unused : (c : Context) (e : ValueTree) (d : DraftOf V) → AreSized c (calls_in e) → Goes d ((ways c e).unused d)
-  pub effect : (c : Context) (e : EffectTree) (d : DraftOf V) → AreSized c (calls_in_effect e) →
-      Goes d (performed c e d)
+  pub value : (z : ℕ → ℕ) (c : Context) (e : ValueTree) (d : DraftOf V) → AreSized z c (calls_in e) →
+      Goes z d ((ways c e).value d).1
+  pub choice : (z : ℕ → ℕ) (c : Context) (e : ValueTree) (p q : ℕ) (d : DraftOf V) → AreSized z c (calls_in e) →
+      Splits z (IsOneOf p q) d ((ways c e).choice p q d)
+  pub unused : (z : ℕ → ℕ) (c : Context) (e : ValueTree) (d : DraftOf V) → AreSized z c (calls_in e) →
+      Goes z d ((ways c e).unused d)
+  pub effect : (z : ℕ → ℕ) (c : Context) (e : EffectTree) (d : DraftOf V) → AreSized z c (calls_in_effect e) →
+      Goes z d (performed c e d)
 
 -- a point to which a jump out of a statement may lead: of its `break`, `continue` and `return`, or of a label
-abbrev pub IsExit : Exits → ℕ → Type 0
-IsExit x q = (q ≡ x.broken) ⊎ ((q ≡ x.continued) ⊎ ((q ≡ x.left) ⊎ ((l : ℕ) × (q ≡ x.labels + l))))
+abbrev pub IsExit : Marks → Exits → ℕ → Type 0
+IsExit m x q =
+    (q ≡ x.broken) ⊎ ((q ≡ x.continued) ⊎ ((q ≡ x.left) ⊎ ((l : ℕ) × (l < m.labels) × (q ≡ x.labels + l))))
 
 -- The edges of a statement in which no label, case or default stands begin at the current point or at new ones, and lead to new ones or to its exits.
 abbrev pub StatementsStay : (V : Type 0) → Type 0
 StatementsStay V =
-    (c : Context) (a : Around) (m : Marks) (s : StatementTree) (x : Exits) (d : DraftOf V) → IsStatement a m s →
-    AreSized c (calls_in_statement s) → ((b : Mark) → times b s ≡ 0)
-    → (let e = lowered c s x d in GoesBy NoPoint (IsExit x) d.point d.points d.edges e.point e.points e.edges)
+    (z : ℕ → ℕ) (c : Context) (a : Around) (m : Marks) (s : StatementTree) (x : Exits) (d : DraftOf V) →
+    IsStatement a m s → AreSized z c (calls_in_statement s) → ((b : Mark) → times b s ≡ 0)
+    → GoesOn z NoPoint (IsExit m x) d (lowered c s x d)
 
--- Behind d the points from h on are entered at h alone: an edge that begins before them leads to none of them but h.
-pub record IsEnteredAt {V : Type 0} (d e : DraftOf V) (h : ℕ) : Type 0 where
+-- ---- loops
+
+-- the points from h to l have those of the region, and that at which its part begins; or it ends before them
+abbrev pub IsPartOf : (h l size : ℕ) → Region → Type 0
+IsPartOf h l n r = (r.points + n ≤ h) ⊎ (IsNew h l r.at × (h ≤ r.points) × (r.points + n ≤ l))
+
+-- Behind d the points from h on are entered at h alone, from q: an edge that begins before them leads to none of them, but from q to h.
+pub record IsEnteredAt {V : Type 0} (z : ℕ → ℕ) (d e : DraftOf V) (q h : ℕ) : Type 0 where
   pub behind : d.points ≤ h
   pub before : h < e.points
   pub edges : (f : EdgeFrom V) → Contains e.edges f → Contains d.edges f
-      ⊎ (IsNew h e.points f.from ⊎ (IsNew h e.points f.to → f.to ≡ h))
+      ⊎ ((f.to ≡ nowhere) ⊎ (IsNew h e.points f.from ⊎ (IsNew h e.points f.to → (f.from ≡ q) × (f.to ≡ h))))
+  pub regions : (j : ℕ) → IsSame d.regions e.regions j ⊎ IsPartOf h e.points (z j) (region_at e.regions j)
+
+-- behind the first part of a `for` at a place
+abbrev pub behind_first : {V : Type 0} → Context → ForStartTree → Pos → DraftOf V → DraftOf V
+behind_first c first p d = for_start c first (fresh 1 (on p d))
 
 -- A loop in which no label, case or default stands is entered where it begins again: a `while` or `do` at its first new point, a `for` at the first behind its first part.
 pub record LoopsAreEntered (V : Type 0) : Type 0 where
-  pub while : (c : Context) (a : Around) (m : Marks) (p : Pos) (v : ValueTree) (s : StatementTree) (x : Exits)
-      (d : DraftOf V) → IsStatement a m (tree.while p v s) → AreSized c (calls_in_statement (tree.while p v s)) →
-      ((b : Mark) → times b (tree.while p v s) ≡ 0) → IsEnteredAt d (lowered c (tree.while p v s) x d) d.points
-  pub do_while : (c : Context) (a : Around) (m : Marks) (p : Pos) (s : StatementTree) (v : ValueTree) (x : Exits)
-      (d : DraftOf V) → IsStatement a m (tree.do_while p s v) → AreSized c (calls_in_statement (tree.do_while p s v)) →
-      ((b : Mark) → times b (tree.do_while p s v) ≡ 0) → IsEnteredAt d (lowered c (tree.do_while p s v) x d) d.points
-  pub for_loop : (c : Context) (a : Around) (m : Marks) (p : Pos) (first : ForStartTree) (v : Option ValueTree)
-      (third : Option EffectTree) (s : StatementTree) (x : Exits) (d : DraftOf V) →
+  pub while : (z : ℕ → ℕ) (c : Context) (a : Around) (m : Marks) (p : Pos) (v : ValueTree) (s : StatementTree)
+      (x : Exits) (d : DraftOf V) → IsStatement a m (tree.while p v s) →
+      AreSized z c (calls_in_statement (tree.while p v s)) → ((b : Mark) → times b (tree.while p v s) ≡ 0)
+      → IsEnteredAt z d (lowered c (tree.while p v s) x d) d.point d.points
+  pub do_while : (z : ℕ → ℕ) (c : Context) (a : Around) (m : Marks) (p : Pos) (s : StatementTree) (v : ValueTree)
+      (x : Exits) (d : DraftOf V) → IsStatement a m (tree.do_while p s v) →
+      AreSized z c (calls_in_statement (tree.do_while p s v)) → ((b : Mark) → times b (tree.do_while p s v) ≡ 0)
+      → IsEnteredAt z d (lowered c (tree.do_while p s v) x d) d.point d.points
+  pub for_loop : (z : ℕ → ℕ) (c : Context) (a : Around) (m : Marks) (p : Pos) (first : ForStartTree)
+      (v : Option ValueTree) (third : Option EffectTree) (s : StatementTree) (x : Exits) (d : DraftOf V) →
       IsStatement a m (tree.for_loop p first v third s) →
-      AreSized c (calls_in_statement (tree.for_loop p first v third s)) →
+      AreSized z c (calls_in_statement (tree.for_loop p first v third s)) →
       ((b : Mark) → times b (tree.for_loop p first v third s) ≡ 0)
-      → IsEnteredAt d (lowered c (tree.for_loop p first v third s) x d) (for_start c first (fresh 1 (on p d))).points
+      → IsEnteredAt z d (lowered c (tree.for_loop p first v third s) x d) (behind_first c first p d).point
+      (behind_first c first p d).points

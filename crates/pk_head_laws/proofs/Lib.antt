@@ -1,4 +1,5 @@
 mod Walked
 mod Numbered
 mod Entries
-mod Drafts
+pub mod Drafts
+pub mod Heads

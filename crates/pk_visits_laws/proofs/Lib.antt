@@ -1,5 +1,5 @@
-mod Followed
-mod Ways
+pub mod Followed
+pub mod Ways
 mod Same
 pub mod Settings
 mod Turned

@@ -29,7 +29,7 @@ use Rattle.pk_visits_laws.proofs.Ways.Statements.{items_go}
 -- ---- where it begins
 
 -- names and objects leave the point, the points, the edges and the regions
-abbrev Stays : {V : Type 0} → DraftOf V → DraftOf V → Type 0
+abbrev pub Stays : {V : Type 0} → DraftOf V → DraftOf V → Type 0
 Stays d e = (e.point ≡ d.point) × (e.points ≡ d.points) × (e.edges ≡ d.edges) × (e.regions ≡ d.regions)
 
 named_stays : {V : Type 0} (o : Option (List ℕ)) (x : ℕ) (d : DraftOf V) → Stays d (named o x d)
@@ -57,7 +57,7 @@ entry_stays : {V : Type 0} (from : Option Caller) (d : DraftOf V) → Stays d (p
 entry_stays None d = (refl, refl, refl, refl)
 entry_stays (Some c) d = (refl, refl, refl, refl)
 
-begun_stays : {V : Type 0} (c : Context) (g : FunctionTree) (b : BodyTree) (from : Option Caller) (r : Region) (d : DraftOf V)
+pub begun_stays : {V : Type 0} (c : Context) (g : FunctionTree) (b : BodyTree) (from : Option Caller) (r : Region) (d : DraftOf V)
     → Stays (begun_at r (record { at = b.opened; path = c.path; scope = b.visible }) (length c.locals + 1) d) (placed_entry from (begun c g b from r d))
 begun_stays c g b from r d =
     let f = begun_at r (record { at = b.opened; path = c.path; scope = b.visible }) (length c.locals + 1) d in

@@ -1,0 +1,6 @@
+mod Enters
+mod Within
+mod Parts
+mod Between
+mod Programs
+mod Graphs
