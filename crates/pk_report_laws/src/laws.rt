@@ -9,6 +9,7 @@ use pk_cert_laws::{checked_cells_hold_runs, read_cells_hold_states};
 use pk_computed_texts::texts_computed_is_evaluated;
 use pk_folded_texts::texts_computed_accesses_are_evaluated;
 use pk_front::way_is_determined;
+use pk_loop_heads_texts::turns_of_texts_are_heads;
 use pk_loop_texts::turns_of_texts_are_apart;
 use pk_sound::{bounds_hold, faults_are_unknown, result_holds_runs, verdicts_hold};
 use pk_text_graph::graphs_are_well_made;
@@ -44,7 +45,7 @@ pub fn checked_cells_are_true()
 }
 
 /// States that hold each run of a text's graph hold each visit of each run of the program, and each fault is at an access whose verdict by them is unknown. No two accesses are of one path, place and kind,
-/// what is told unreachable no run computes, and what is told of where a loop begins again is true of each of its turns.
+/// what is told unreachable no run computes, and what is told of where a loop begins again is true of each of its turns, and is a head's where nothing jumps into the loop and one turn can follow another.
 pub fn true_states_are_true_of_programs()
     ensures { TrueStatesAreTrueOfPrograms }
 {
@@ -59,6 +60,7 @@ pub fn true_states_are_true_of_programs()
     texts_computed_accesses_are_evaluated();
     turns_are_followed();
     turns_of_texts_are_apart();
+    turns_of_texts_are_heads();
 }
 
 /// So do those of a report.

@@ -26,6 +26,8 @@ use Rattle.pk_meaning.specs.Runs.{Visit}
 use Rattle.pk_visits.specs.GraphVisits.{GraphRuns, ends, steps, is_visit, visit_at, visits_if}
 use Rattle.pk_visits.specs.NeverStuck.{IsNeverStuck}
 use Rattle.pk_loop_texts.specs.Laws.{BeginsAtOne}
+use Rattle.pk_loop_heads.specs.Laws.{IsPlainLoop}
+use Rattle.pk_loop_heads_texts.specs.Laws.{TurnsAreHeads}
 use Rattle.pk_visits.specs.Turns.{TurnPoint}
 use Rattle.pk_visits.specs.Turning.{TurnsAreAt, graph_turns}
 use Rattle.pk_visits.specs.SameVisits.{GraphVisits, HaveSameVisits, FailsAt, EndsAt, IsInside}
@@ -152,8 +154,8 @@ module _ (g : GraphOf) (states : List Stated) (made : IsGraph g) (t : AreTrueOf 
       (t.0, t.1, subst (IsToldOf g states t.0) t.2.visit (told_of t.0 t.2.store all.1))
 
 pub true_of : (g : GraphOf) (states : List Stated) (p : Program) → IsGraph g → AreTrueOf g states → ((v : ℕ) → SharesAccesses v (point_at g v).edges) → HaveSameVisits p g → IsNeverStuck p → NoneTwice (accesses_of g) → OperationsAreEvaluated p g
-    → AccessesThemselvesAreEvaluated p g → TurnsAreAt p g (graph_turns p.unit p.paths) → ((path : ℕ) → BeginsAtOne (graph_turns p.unit p.paths path)) → IsTrueOfProgram p g states
-true_of g states p made t share same on once all themselves turns one = record {
+    → AccessesThemselvesAreEvaluated p g → TurnsAreAt p g (graph_turns p.unit p.paths) → ((path : ℕ) → BeginsAtOne (graph_turns p.unit p.paths path)) → TurnsAreHeads g (IsPlainLoop p.unit p.paths) (graph_turns p.unit p.paths) → IsTrueOfProgram p g states
+true_of g states p made t share same on once all themselves turns one heads = record {
   runs = same;
   goes_on = on;
   points = t;
@@ -165,4 +167,5 @@ true_of g states p made t share same on once all themselves turns one = record {
   unreachable = none_computes p g states t themselves;
   turns = turned g states made t share p (graph_turns p.unit p.paths) turns;
   one_point = one;
+  heads = heads;
 }

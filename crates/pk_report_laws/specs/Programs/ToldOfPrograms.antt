@@ -27,6 +27,8 @@ use Rattle.pk_visits.specs.GraphVisits.{Begins, is_visit, visit_at}
 use Rattle.pk_visits.specs.SameVisits.{ProgramVisits, EndsAt, HaveSameVisits}
 use Rattle.pk_visits.specs.NeverStuck.{IsNeverStuck}
 use Rattle.pk_loop_texts.specs.Laws.{BeginsAtOne}
+use Rattle.pk_loop_heads.specs.Laws.{IsPlainLoop}
+use Rattle.pk_loop_heads_texts.specs.Laws.{TurnsAreHeads}
 use Rattle.pk_visits.specs.Turns.{TurnPoint, turning}
 use Rattle.pk_visits.specs.Turning.{graph_turns}
 use Rattle.pk_access_laws.specs.Laws.{NoneTwice}
@@ -138,7 +140,7 @@ TurnsAreTold p g states turns =
 -- The program and its graph have the same visits, no run of the program is stuck, and no run of the graph leaves what is told of the points that it comes to.
 -- So each visit of each run is told, and the fault at its end if there is one. Several points can have one place: the run of the graph tells which of them a visit is at.
 -- No two lines of accesses are of one path, place and kind; what a run computes has a line that isn't unreachable, and what is told unreachable no run computes.
--- Each loop of a path begins again at one point at most, and what is told of that point is true of each turn.
+-- Each loop of a path begins again at one point at most, and what is told of that point is true of each turn. Where nothing jumps into the loop, that point is a head exactly if edges lead to it from two points, from before the loop and back.
 pub record IsTrueOfProgram (p : Program) (g : GraphOf) (states : List Stated) : Type 0 where
   pub runs : HaveSameVisits p g
   pub goes_on : IsNeverStuck p
@@ -153,6 +155,7 @@ pub record IsTrueOfProgram (p : Program) (g : GraphOf) (states : List Stated) : 
   pub unreachable : UnreachableIsNotComputed p g states
   pub turns : TurnsAreTold p g states (graph_turns p.unit p.paths)
   pub one_point : (path : ℕ) → BeginsAtOne (graph_turns p.unit p.paths path)
+  pub heads : TurnsAreHeads g (IsPlainLoop p.unit p.paths) (graph_turns p.unit p.paths)
 
 -- the program that a text is, with its call paths
 abbrev pub program_of : {text entry : List ℕ} {g : GraphOf} → HasGraph text entry g → Program

@@ -22,4 +22,4 @@ returns c = λ text entry g h states true_are.
     (c.programs_are_never_stuck.ensures h.unit entry h.paths unit marked h.called.called.0 h.few)
     (c.accesses_are_apart.ensures text entry g h) (c.texts_computed_is_evaluated.ensures text entry g h) (c.texts_computed_accesses_are_evaluated.ensures text entry g h)
     (subst (λ (x : GraphOf). TurnsAreAt (program_of h) x (graph_turns h.unit h.paths)) (sym h.graph) (c.turns_are_followed.ensures h.unit entry h.paths unit marked h.called.called.0 h.few))
-    (c.turns_of_texts_are_apart.ensures text entry g h)
+    (c.turns_of_texts_are_apart.ensures text entry g h) (c.turns_of_texts_are_heads.ensures text entry g h)
