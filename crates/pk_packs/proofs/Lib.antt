@@ -1,0 +1,6 @@
+mod MarkLemmas
+mod FirstLemmas
+mod EdgeLemmas
+mod ComponentLemmas
+mod EndLemmas
+mod PackLemmas

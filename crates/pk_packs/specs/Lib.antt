@@ -1,0 +1,4 @@
+pub mod Belongs
+pub mod Packs
+pub mod Ends
+pub mod Laws
