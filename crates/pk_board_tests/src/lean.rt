@@ -214,11 +214,13 @@ impl<'a> Parted for Counting<'a> {
     }
 }
 
-// The most cells that lived when a run's cell was made.
+// The most cells that lived when a run's cell was made, and when an item was begun.
 #[derive(Drop)]
 struct Watch<'a> {
     alive: &'a Arc<u64>,
     most: AtomicU64,
+    starts: &'a [u32],
+    between: AtomicU64,
 }
 
 impl<'a> Gate for Watch<'a> {
@@ -226,7 +228,12 @@ impl<'a> Gate for Watch<'a> {
         true
     }
 
-    fn before<R: Threads + Wait>(&self, _rt: &R, _worker: u32, _element: u32, _run: u64) {}
+    fn before<R: Threads + Wait>(&self, _rt: &R, _worker: u32, element: u32, run: u64) {
+        if run == 0 && self.starts.contains(&element) {
+            let alive = Arc::strong_count(self.alive) as u64;
+            self.between.fetch_max(alive, Ordering::SeqCst);
+        }
+    }
 
     fn after<R: Threads + Wait>(&self, _rt: &R, _worker: u32, _element: u32, _run: u64) {
         let alive = Arc::strong_count(self.alive) as u64;
@@ -234,19 +241,22 @@ impl<'a> Gate for Watch<'a> {
     }
 }
 
-// The most cells that lived when one worker goes through a scene, besides two that count.
+// The most cells that lived when one worker goes through a scene, and the most between two items, each with two more that count.
 fn most_alive<R: Threads + Wait + Sync + Abort>(
     rt: &R,
     alloc: Global,
     made: &Scene,
+    starts: &[u32],
     lean: bool,
-) -> Result<u64, AllocError>
+) -> Result<(u64, u64), AllocError>
     requires { IsPrepared made.now.plan (lists_of made.now.system.rows.items) made.now.cells }
 {
     let alive = Arc::new(alloc, 0)?;
     let watch = Watch {
         alive: &alive,
         most: AtomicU64::new(0),
+        starts,
+        between: AtomicU64::new(0),
     };
     let system = Counting {
         of: &made.system,
@@ -263,7 +273,10 @@ fn most_alive<R: Threads + Wait + Sync + Abort>(
             Ok(_) => (),
         }
     }
-    Ok(watch.most.load(Ordering::SeqCst))
+    Ok((
+        watch.most.load(Ordering::SeqCst),
+        watch.between.load(Ordering::SeqCst),
+    ))
 }
 
 // Four loops in a row.
@@ -281,19 +294,70 @@ const ROW: [(u32, u32); 11] = [
     (7, 6),
 ];
 
+// A digraph, where its items begin, its peak, and how many cells live at most with one worker. Where cells are let go of, these are, in the fullest item, those of earlier
+// items that it or a later one reads, one for each of its points and loop exits, and one more in a loop, where an element that runs again has two for a moment; else those of
+// all points and loop exits, and of the end.
+struct Case {
+    vertices: u32,
+    edges: &'static [(u32, u32)],
+    starts: &'static [u32],
+    peak: u64,
+    lean: u64,
+    whole: u64,
+}
+
+const CASES: [Case; 5] = [
+    Case {
+        vertices: 5,
+        edges: &LINE,
+        starts: &[0, 1, 2, 3, 4],
+        peak: 2,
+        lean: 1 + 1,
+        whole: 5 + 1,
+    },
+    Case {
+        vertices: 8,
+        edges: &ROW,
+        starts: &[0, 2, 4, 6],
+        peak: 4,
+        lean: 1 + 3 + 1,
+        whole: 8 + 4 + 1,
+    },
+    Case {
+        vertices: 8,
+        edges: &BESIDE,
+        starts: &[0, 1, 4, 7],
+        peak: 7,
+        lean: 2 + 5 + 1,
+        whole: 8 + 4 + 1,
+    },
+    Case {
+        vertices: 8,
+        edges: &NESTED,
+        starts: &[0, 1, 4, 7],
+        peak: 7,
+        lean: 1 + 6 + 1,
+        whole: 8 + 3 + 1,
+    },
+    Case {
+        vertices: 10,
+        edges: &FAN,
+        starts: &[0, 1, 2, 3, 4, 5, 6, 7, 8, 9],
+        peak: 9,
+        lean: 8 + 1,
+        whole: 10 + 1,
+    },
+];
+
 #[test]
 fn cells_are_let_go_of(rt: HostRuntime) -> Result<(), AllocError> {
-    let rows: [(u32, &[(u32, u32)], u64, u64); 5] = [
-        (5, &LINE, 4, 8),
-        (8, &ROW, 7, 15),
-        (8, &BESIDE, 10, 15),
-        (8, &NESTED, 10, 14),
-        (10, &FAN, 11, 13),
-    ];
-    for (vertices, edges, lean, whole) in rows {
-        let made = prepared(&rt, rt.alloc(), vertices, edges)?;
-        assert!(rt; most_alive(&rt, rt.alloc(), &made, true)? == lean);
-        assert!(rt; most_alive(&rt, rt.alloc(), &made, false)? == whole);
+    for case in &CASES {
+        let made = prepared(&rt, rt.alloc(), case.vertices, case.edges)?;
+        let (lean, between) = most_alive(&rt, rt.alloc(), &made, case.starts, true)?;
+        assert!(rt; lean == 2 + case.lean);
+        assert!(rt; between <= 2 + case.peak);
+        let (whole, _) = most_alive(&rt, rt.alloc(), &made, case.starts, false)?;
+        assert!(rt; whole == 2 + case.whole);
     }
     Ok(())
 }
