@@ -22,7 +22,7 @@ letter c = record { start = 20 + c; end = 21 + c; at = column c; is_tag = false 
 abbrev value : ℕ → ExpressionTree
 value c = tree.name (letter c)
 
--- `a + b * c`, `a++ - b`, `-a < b`, `f(a) ? b : c`, `a[b] = c`, `(a), b`, each from column 5 on
+-- `a + b * c`, `a++ - b`, `-a < b`, `f(a) ? b : c`, `a[b] = c`, `(a), b`, `a[b][c]`, each from column 5 on
 begin_left : map first_place_of
     (tree.binary operators.Add (column 7) (value 5) (tree.binary operators.Multiply (column 11) (value 9) (value 13))
     ∷ tree.binary operators.Subtract (column 9) (tree.postfix steps.Increment (column 6) (value 5)) (value 11)
@@ -30,7 +30,8 @@ begin_left : map first_place_of
     ∷ tree.conditional (column 10) (tree.call (letter 5) (tree.expression_then (value 7) tree.no_expressions)) (value 12) (value 16)
     ∷ tree.assignment assignments.Assign (column 10) (tree.index (letter 5) (column 6) (value 7)) (value 12)
     ∷ tree.comma (column 8) (tree.parenthesized (column 5) (value 6)) (value 10)
-    ∷ []) ≡ column 5 ∷ column 5 ∷ column 5 ∷ column 5 ∷ column 5 ∷ column 5 ∷ []
+    ∷ tree.element (letter 5) (column 6) (value 7) (column 9) (value 10)
+    ∷ []) ≡ column 5 ∷ column 5 ∷ column 5 ∷ column 5 ∷ column 5 ∷ column 5 ∷ column 5 ∷ []
 unfolding first_place_of
 begin_left = refl
 

@@ -3,12 +3,13 @@ use Rattle.std.proofs.Common.{◌≡◌, List, [], ◌∷◌, ◌++◌, refl, ap
 use Rattle.std.proofs.lemmas.List.{map-append}
 use Rattle.pk_ast.specs.declared.declarations.Declarator.{Declarator}
 use Rattle.pk_ast.specs.declared.declarations.Enumerator.{Enumerator}
+use Rattle.pk_ast.specs.declared.declarations.InitializerItem.{InitializerItem}
 use Rattle.pk_ast.specs.declared.units.Parameter.{Parameter}
 use Rattle.pk_ast.specs.declared.statements.BlockItem.{BlockItem}
 use Rattle.pk_ast.specs.declared.statements.BlockItem.TheVariants.{Declaration, Statement}
 use Rattle.pk_ast.specs.Lists.{append_items}
 use Rattle.pk_ast.specs.Trees.{ItemTrees, no_items, declaration_then, statement_then}
-use Rattle.pk_ast.specs.Views.{declarator_tree, declarator_trees, enumerator_tree, enumerator_trees, declaration_tree, statement_tree, item_trees, parameter_tree, parameter_trees}
+use Rattle.pk_ast.specs.Views.{declarator_tree, declarator_trees, enumerator_tree, enumerator_trees, initializer_item_tree, initializer_item_trees, declaration_tree, statement_tree, item_trees, parameter_tree, parameter_trees}
 
 pub append_items-none : (rest : ItemTrees) → append_items rest no_items ≡ rest
 append_items-none no_items = refl
@@ -33,6 +34,9 @@ declarator_trees-push ds d = map-append declarator_tree ds (d ∷ [])
 
 pub enumerator_trees-push : (xs : List Enumerator) (x : Enumerator) → enumerator_trees (xs ++ x ∷ []) ≡ enumerator_trees xs ++ enumerator_tree x ∷ []
 enumerator_trees-push xs x = map-append enumerator_tree xs (x ∷ [])
+
+pub initializer_item_trees-push : (is : List InitializerItem) (i : InitializerItem) → initializer_item_trees (is ++ i ∷ []) ≡ initializer_item_trees is ++ initializer_item_tree i ∷ []
+initializer_item_trees-push is i = map-append initializer_item_tree is (i ∷ [])
 
 pub parameter_trees-push : (ps : List Parameter) (p : Parameter) → parameter_trees (ps ++ p ∷ []) ≡ parameter_trees ps ++ parameter_tree p ∷ []
 parameter_trees-push ps p = map-append parameter_tree ps (p ∷ [])

@@ -5,7 +5,7 @@ use Rattle.pk_ast.specs.declared.declarations.Specifier.{Specifier}
 use Rattle.pk_ast.specs.declared.declarations.SpecifierWord.{SpecifierWord}
 use Rattle.pk_ast.specs.declared.declarations.SpecifierWord.TheVariants as word
 use Rattle.pk_ast.specs.declared.expressions.Identifier.{Identifier}
-use Rattle.pk_ast.specs.Trees.{OneOrMore, ExpressionTree, name, call, index, constant, character, parenthesized, postfix, prefix, unary, cast, binary, conditional, assignment, comma, ExpressionTrees, no_expressions, expression_then, InitializerTree, single, braced, DeclaratorTree, EnumeratorTree, EnumerationTree, DeclarationTree, ForStartTree, declaration, expression, StatementTree, block, empty, expression_statement, label, case, default, if_then, if_else, switch, while, do_while, for_loop, goto, continue, break, return, ItemTrees, no_items, declaration_then, statement_then, BlockTree, ParameterTree, ExternalTree, function, objects, type_names}
+use Rattle.pk_ast.specs.Trees.{OneOrMore, ExpressionTree, name, call, index, element, constant, character, parenthesized, postfix, prefix, unary, cast, binary, conditional, assignment, comma, ExpressionTrees, no_expressions, expression_then, InitializerItemTree, item_value, item_row, InitializerTree, single, braced, DimensionsTree, DeclaratorTree, EnumeratorTree, EnumerationTree, DeclarationTree, ForStartTree, declaration, expression, StatementTree, block, empty, expression_statement, label, case, default, if_then, if_else, switch, while, do_while, for_loop, goto, continue, break, return, ItemTrees, no_items, declaration_then, statement_then, BlockTree, ParameterTree, ExternalTree, function, objects, type_names}
 
 -- the name that stands there
 abbrev pub name_at : ℕ → ℕ → Pos → Identifier
@@ -37,6 +37,7 @@ unfoldable mutual
   expression_names (name x) = x ∷ []
   expression_names (call x es) = x ∷ list_names es
   expression_names (index x at e) = x ∷ expression_names e
+  expression_names (element x at e column_at c) = x ∷ (expression_names e ++ expression_names c)
   expression_names (constant at t n) = []
   expression_names (character at n) = []
   expression_names (parenthesized at e) = expression_names e
@@ -57,13 +58,25 @@ abbrev pub optional_names : Option ExpressionTree → List Identifier
 optional_names None = []
 optional_names (Some e) = expression_names e
 
+abbrev pub initializer_item_names : InitializerItemTree → List Identifier
+initializer_item_names (item_value e) = expression_names e
+initializer_item_names (item_row at e es) = expression_names e ++ list_names es
+
+abbrev pub all_initializer_item_names : List InitializerItemTree → List Identifier
+all_initializer_item_names [] = []
+all_initializer_item_names (i ∷ is) = initializer_item_names i ++ all_initializer_item_names is
+
 abbrev pub initializer_names : Option InitializerTree → List Identifier
 initializer_names None = []
 initializer_names (Some (single e)) = expression_names e
-initializer_names (Some (braced at e es)) = expression_names e ++ list_names es
+initializer_names (Some (braced at is)) = initializer_item_names is.first ++ all_initializer_item_names is.more
+
+abbrev pub dimensions_names : Option DimensionsTree → List Identifier
+dimensions_names None = []
+dimensions_names (Some d) = expression_names d.length ++ optional_names d.columns
 
 abbrev pub declarator_names : DeclaratorTree → List Identifier
-declarator_names d = d.name ∷ (optional_names d.length ++ initializer_names d.initializer)
+declarator_names d = d.name ∷ (dimensions_names d.dimensions ++ initializer_names d.initializer)
 
 abbrev pub all_declarator_names : List DeclaratorTree → List Identifier
 all_declarator_names [] = []

@@ -1,6 +1,6 @@
 -- Where a tree's text begins: the place of its first token.
 use Rattle.pk_ctypes.specs.declared.places.Pos.{Pos}
-use Rattle.pk_ast.specs.Trees.{ExpressionTree, StatementTree, name, call, index, constant, character, parenthesized, postfix, prefix, unary, cast, binary, conditional, assignment, comma}
+use Rattle.pk_ast.specs.Trees.{ExpressionTree, StatementTree, name, call, index, element, constant, character, parenthesized, postfix, prefix, unary, cast, binary, conditional, assignment, comma}
 use Rattle.pk_ast.specs.Trees.{block, empty, expression_statement, label, case, default, if_then, if_else, switch, while, do_while, for_loop, goto, continue, break, return}
 
 -- an operator between operands, or after one, comes after the token that its left operand begins with
@@ -8,6 +8,7 @@ unfoldable pub first_place_of : ExpressionTree → Pos
 first_place_of (name x) = x.at
 first_place_of (call x es) = x.at
 first_place_of (index x at e) = x.at
+first_place_of (element x at e column_at c) = x.at
 first_place_of (constant at t n) = at
 first_place_of (character at n) = at
 first_place_of (parenthesized at e) = at

@@ -21,6 +21,7 @@ mutual
     name : Identifier → ExpressionTree
     call : Identifier → ExpressionTrees → ExpressionTree
     index : Identifier → Pos → ExpressionTree → ExpressionTree
+    element : Identifier → Pos → ExpressionTree → Pos → ExpressionTree → ExpressionTree
     constant : Pos → IntType → ℕ → ExpressionTree
     character : Pos → ℤ → ExpressionTree
     parenthesized : Pos → ExpressionTree → ExpressionTree
@@ -38,14 +39,24 @@ mutual
     no_expressions : ExpressionTrees
     expression_then : ExpressionTree → ExpressionTrees → ExpressionTrees
 
+-- an item of an initialiser's braces: a value, or a row of values in braces of its own
+pub data InitializerItemTree : Type 0 where
+  item_value : ExpressionTree → InitializerItemTree
+  item_row : Pos → ExpressionTree → ExpressionTrees → InitializerItemTree
+
 -- what a declared object begins with (C99 6.7.8)
 pub data InitializerTree : Type 0 where
   single : ExpressionTree → InitializerTree
-  braced : Pos → ExpressionTree → ExpressionTrees → InitializerTree
+  braced : Pos → OneOrMore InitializerItemTree → InitializerTree
+
+-- how many elements an array has, or rows and columns (C99 6.7.5.2)
+pub record DimensionsTree : Type 0 where
+  pub length : ExpressionTree
+  pub columns : Option ExpressionTree
 
 pub record DeclaratorTree : Type 0 where
   pub name : Identifier
-  pub length : Option ExpressionTree
+  pub dimensions : Option DimensionsTree
   pub initializer : Option InitializerTree
 
 pub record EnumeratorTree : Type 0 where

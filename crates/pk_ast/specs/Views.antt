@@ -6,12 +6,15 @@ use Rattle.pk_ast.specs.declared.declarations.Specifier.{Specifier}
 use Rattle.pk_ast.specs.declared.declarations.Specifiers.{Specifiers}
 use Rattle.pk_ast.specs.declared.declarations.Initializer.{Initializer}
 use Rattle.pk_ast.specs.declared.declarations.Initializer.TheVariants.{Single, Braced}
+use Rattle.pk_ast.specs.declared.declarations.InitializerItem.{InitializerItem}
+use Rattle.pk_ast.specs.declared.declarations.InitializerItem.TheVariants as initial
+use Rattle.pk_ast.specs.declared.declarations.Dimensions.{Dimensions}
 use Rattle.pk_ast.specs.declared.declarations.Declarator.{Declarator}
 use Rattle.pk_ast.specs.declared.declarations.Enumerator.{Enumerator}
 use Rattle.pk_ast.specs.declared.declarations.Enumeration.{Enumeration}
 use Rattle.pk_ast.specs.declared.declarations.Declaration.{Declaration}
 use Rattle.pk_ast.specs.declared.expressions.Expression.{Expression, Row_of-Expression, end_of-Expression, more_of-Expression}
-use Rattle.pk_ast.specs.declared.expressions.Expression.TheVariants.{Name, Call', Index', Constant, Character, Parenthesized', Postfix', Prefix', Unary', Cast', Binary', Conditional', Assignment', Comma'}
+use Rattle.pk_ast.specs.declared.expressions.Expression.TheVariants.{Name, Call', Index', Element', Constant, Character, Parenthesized', Postfix', Prefix', Unary', Cast', Binary', Conditional', Assignment', Comma'}
 use Rattle.pk_ast.specs.declared.statements.ForStart as declared_for_start
 use Rattle.pk_ast.specs.declared.statements.ForStart.TheVariants as for_starts
 use Rattle.pk_ast.specs.declared.statements.Statement.{Statement}
@@ -26,8 +29,8 @@ use Rattle.pk_ast.specs.declared.units.External.{External}
 use Rattle.pk_ast.specs.declared.units.Typedef.{Typedef}
 use Rattle.pk_ast.specs.declared.units.External.TheVariants as externals
 use Rattle.pk_ast.specs.declared.units.Unit as declared_unit
-use Rattle.pk_ast.specs.Trees.{OneOrMore, ExpressionTree, ExpressionTrees, InitializerTree, DeclaratorTree, EnumeratorTree, EnumerationTree, DeclarationTree, ForStartTree, StatementTree, ItemTrees, BlockTree, ParameterTree, FunctionTree, TypedefTree, ExternalTree}
-use Rattle.pk_ast.specs.Trees.{name, call, index, constant, character, parenthesized, postfix, prefix, unary, cast, binary, conditional, assignment, comma, no_expressions, expression_then, single, braced}
+use Rattle.pk_ast.specs.Trees.{OneOrMore, ExpressionTree, ExpressionTrees, InitializerItemTree, InitializerTree, DimensionsTree, DeclaratorTree, EnumeratorTree, EnumerationTree, DeclarationTree, ForStartTree, StatementTree, ItemTrees, BlockTree, ParameterTree, FunctionTree, TypedefTree, ExternalTree}
+use Rattle.pk_ast.specs.Trees.{name, call, index, element, constant, character, parenthesized, postfix, prefix, unary, cast, binary, conditional, assignment, comma, no_expressions, expression_then, item_value, item_row, single, braced}
 use Rattle.pk_ast.specs.Trees.{declaration, expression, block, empty, expression_statement, label, case, default, if_then, if_else, switch, while, do_while, for_loop, goto, continue, break, return, no_items, declaration_then, statement_then, function, objects, type_names}
 
 abbrev pub specifiers_tree : Specifiers → OneOrMore Specifier
@@ -38,6 +41,7 @@ unfoldable mutual
   expression_tree (Name x) = name x
   expression_tree (Call' x shape arguments) = call x (expressions_of_row arguments)
   expression_tree (Index' x at p e) = index x at (expression_tree e)
+  expression_tree (Element' x at p e column_at q c) = element x at (expression_tree e) column_at (expression_tree c)
   expression_tree (Constant at t n) = constant at t n
   expression_tree (Character at n) = character at n
   expression_tree (Parenthesized' at p e) = parenthesized at (expression_tree e)
@@ -60,15 +64,28 @@ abbrev pub expression_trees : List Expression → ExpressionTrees
 expression_trees [] = no_expressions
 expression_trees (e ∷ es) = expression_then (expression_tree e) (expression_trees es)
 
+unfoldable pub initializer_item_tree : InitializerItem → InitializerItemTree
+initializer_item_tree (initial.Value e) = item_value (expression_tree e)
+initializer_item_tree (initial.Row r) =
+    item_row r.value.at (expression_tree r.value.first) (expression_trees r.value.more.items)
+
+abbrev pub initializer_item_trees : List InitializerItem → List InitializerItemTree
+initializer_item_trees = map initializer_item_tree
+
 unfoldable pub initializer_tree : Initializer → InitializerTree
 initializer_tree (Single e) = single (expression_tree e)
-initializer_tree (Braced at e es) = braced at (expression_tree e) (expression_trees es.items)
+initializer_tree (Braced at i is) =
+    braced at (record { first = initializer_item_tree i; more = initializer_item_trees is.items })
+
+unfoldable pub dimensions_tree : Dimensions → DimensionsTree
+dimensions_tree d =
+    record { length = expression_tree d.length; columns = option_map expression_tree d.columns }
 
 unfoldable pub declarator_tree : Declarator → DeclaratorTree
 declarator_tree d =
     record {
       name = d.name;
-      length = option_map expression_tree d.length;
+      dimensions = option_map dimensions_tree d.dimensions;
       initializer = option_map initializer_tree d.initializer;
     }
 

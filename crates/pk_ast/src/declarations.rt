@@ -6,7 +6,10 @@ ghost use Rattle.pk_ast.specs.Views.{
   specifiers_tree,
   expression_tree,
   expression_trees,
+  initializer_item_tree,
+  initializer_item_trees,
   initializer_tree,
+  dimensions_tree,
   declarator_tree,
   declarator_trees,
   enumerator_tree,
@@ -15,7 +18,7 @@ ghost use Rattle.pk_ast.specs.Views.{
   declaration_tree,
 };
 
-use crate::boxes::boxed_if_some;
+use crate::boxes::{boxed, boxed_if_some};
 use crate::expressions::{Expression, Identifier};
 use pk_ctypes::Pos;
 use std::alloc::{AllocError, Global};
@@ -53,22 +56,44 @@ pub struct Specifiers {
     pub more: Vec<Specifier>,
 }
 
-/// What a declared object begins with: a value, or one or more of them in braces, with the place of the `{`.
+/// A row of values in braces, with the place of the `{`.
+#[derive(Drop)]
+pub struct InitializerRow {
+    pub at: Pos,
+    pub first: Expression,
+    pub more: Vec<Expression>,
+}
+
+/// An item of an initialiser's braces: a value, or a row of values in braces of its own.
+#[derive(Drop)]
+pub enum InitializerItem {
+    Value(Expression),
+    Row(Box<InitializerRow>),
+}
+
+/// What a declared object begins with: a value, or one or more items in braces, with the place of the `{`.
 #[derive(Drop)]
 pub enum Initializer {
     Single(Expression),
     Braced {
         at: Pos,
-        first: Expression,
-        more: Vec<Expression>,
+        first: InitializerItem,
+        more: Vec<InitializerItem>,
     },
 }
 
-/// A declared name, with the length of an array and what it begins with, where these are given.
+/// How many elements an array has, or rows and columns.
+#[derive(Drop)]
+pub struct Dimensions {
+    pub length: Expression,
+    pub columns: Option<Expression>,
+}
+
+/// A declared name, with the dimensions of an array and what it begins with, where these are given.
 #[derive(Drop)]
 pub struct Declarator {
     pub name: Identifier,
-    pub length: Option<Expression>,
+    pub dimensions: Option<Dimensions>,
     pub initializer: Option<Initializer>,
 }
 
@@ -103,11 +128,48 @@ impl Initializer {
         Initializer::Single(value)
     }
 
-    pub fn braced(at: Pos, first: Expression, more: Vec<Expression>) -> Initializer
-        ensures { initializer_tree result
-            ≡ tree.braced at (expression_tree first) (expression_trees more.items) }
+    pub fn braced(at: Pos, first: InitializerItem, more: Vec<InitializerItem>) -> Initializer
+        ensures { initializer_tree result ≡ tree.braced at (record {
+          first = initializer_item_tree first;
+          more = initializer_item_trees more.items;
+        }) }
     {
         Initializer::Braced { at, first, more }
+    }
+}
+
+#[tactic(auto, unfolding(crate::specs::Views::initializer_item_tree))]
+impl InitializerItem {
+    pub fn value(value: Expression) -> InitializerItem
+        ensures { initializer_item_tree result ≡ tree.item_value (expression_tree value) }
+    {
+        InitializerItem::Value(value)
+    }
+
+    /// A row, at its `{`.
+    pub fn row(
+        alloc: Global,
+        at: Pos,
+        first: Expression,
+        more: Vec<Expression>,
+    ) -> Result<InitializerItem, AllocError>
+        ensures { IfOk result (λ i. initializer_item_tree i
+            ≡ tree.item_row at (expression_tree first) (expression_trees more.items)) }
+    {
+        let row = boxed(alloc, InitializerRow { at, first, more })?;
+        Ok(InitializerItem::Row(row))
+    }
+}
+
+#[tactic(auto, unfolding(crate::specs::Views::dimensions_tree))]
+impl Dimensions {
+    pub fn new(length: Expression, columns: Option<Expression>) -> Dimensions
+        ensures { dimensions_tree result ≡ record {
+          length = expression_tree length;
+          columns = option_map expression_tree columns;
+        } }
+    {
+        Dimensions { length, columns }
     }
 }
 
@@ -115,18 +177,18 @@ impl Initializer {
 impl Declarator {
     pub fn new(
         name: Identifier,
-        length: Option<Expression>,
+        dimensions: Option<Dimensions>,
         initializer: Option<Initializer>,
     ) -> Declarator
         ensures { declarator_tree result ≡ record {
           name = name;
-          length = option_map expression_tree length;
+          dimensions = option_map dimensions_tree dimensions;
           initializer = option_map initializer_tree initializer;
         } }
     {
         Declarator {
             name,
-            length,
+            dimensions,
             initializer,
         }
     }

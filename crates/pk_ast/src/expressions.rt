@@ -29,6 +29,14 @@ pub enum Expression {
     Call(Identifier, Vec<Expression>),
     /// An element of an array, by its name and the place of the `[`.
     Index(Identifier, Pos, Box<Expression>),
+    /// An element of an array of rows and columns, by its name and the place of each `[`.
+    Element {
+        name: Identifier,
+        at: Pos,
+        row: Box<Expression>,
+        column_at: Pos,
+        column: Box<Expression>,
+    },
     /// An integer constant with its type and value.
     Constant(Pos, IntType, u64),
     /// A character constant, of type int.
@@ -93,6 +101,28 @@ impl Expression {
     {
         let index = boxed(alloc, index)?;
         Ok(Expression::Index(name, at, index))
+    }
+
+    /// An element of an array of rows and columns, by its name and the place of each `[`.
+    pub fn element(
+        alloc: Global,
+        name: Identifier,
+        at: Pos,
+        row: Expression,
+        column_at: Pos,
+        column: Expression,
+    ) -> Result<Expression, AllocError>
+        ensures { IfOk result (λ e. expression_tree e
+            ≡ tree.element name at (expression_tree row) column_at (expression_tree column)) }
+    {
+        let (row, column) = both_boxed(alloc, row, column)?;
+        Ok(Expression::Element {
+            name,
+            at,
+            row,
+            column_at,
+            column,
+        })
     }
 
     pub fn constant(at: Pos, int_type: IntType, value: u64) -> Expression
@@ -251,6 +281,7 @@ impl Expression {
                 Expression::Name(name) => return name.at,
                 Expression::Call(name, _) => return name.at,
                 Expression::Index(name, _, _) => return name.at,
+                Expression::Element { name, .. } => return name.at,
                 Expression::Constant(at, _, _) => return *at,
                 Expression::Character(at, _) => return *at,
                 Expression::Parenthesized(at, _) => return *at,

@@ -12,8 +12,8 @@ mod statements;
 mod units;
 
 pub use declarations::{
-    Declaration, Declarator, Enumeration, Enumerator, Initializer, Specifier, SpecifierWord,
-    Specifiers,
+    Declaration, Declarator, Dimensions, Enumeration, Enumerator, Initializer, InitializerItem,
+    InitializerRow, Specifier, SpecifierWord, Specifiers,
 };
 pub use expressions::{Expression, Identifier};
 pub use operators::{AssignmentOperator, BinaryOperator, StepOperator, UnaryOperator};
