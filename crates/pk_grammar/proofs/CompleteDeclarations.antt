@@ -7,22 +7,23 @@ use Rattle.pk_lex.specs.declared.token.Punctuator.TheVariants as mark
 use Rattle.pk_ast.specs.declared.declarations.Specifier.{Specifier}
 use Rattle.pk_ast.specs.declared.declarations.SpecifierWord.{SpecifierWord}
 use Rattle.pk_ast.specs.declared.expressions.Identifier.{Identifier}
-use Rattle.pk_ast.specs.Trees.{OneOrMore, ExpressionTree, ExpressionTrees, no_expressions, expression_then, InitializerTree, single, braced, DeclaratorTree, EnumerationTree, DeclarationTree}
+use Rattle.pk_ast.specs.Trees.{OneOrMore, ExpressionTree, InitializerTree, single, braced, DimensionsTree, DeclaratorTree, EnumerationTree, DeclarationTree}
 use Rattle.pk_ast.specs.Lists.{one, with_last, ended}
 use Rattle.pk_grammar.proofs.SpellsWords.{drop_last}
 use Rattle.pk_grammar.specs.declared.signs.Fixed.TheVariants as fixed
-use Rattle.pk_grammar.specs.Languages.{Marked, Optional, ◌⊙◌, identifier_of}
+use Rattle.pk_grammar.specs.Languages.{Marked, ◌⊙◌, identifier_of}
 use Rattle.pk_grammar.specs.Grammar as grammar
-use Rattle.pk_grammar.specs.Grammar.{AllFit, Fits, spelled, spelled_list, spelled_more, punctuator, array_length, initializer, declarator, declarators, declared, more_declarators}
+use Rattle.pk_grammar.specs.Grammar.{punctuator, array_length, dimensions, initializer, declarator, declarators, declared, more_declarators}
 use Rattle.pk_grammar.specs.Machine.Signs.{is_fixed, specifier_word}
-use Rattle.pk_grammar.specs.Machine.States.{Site, in_a_block, in_a_for, outside, in_declaration, Declaring, Naming, as_length, as_value, as_item, as_whole, State, operand, complete, after_specifiers, after_name, after_length, after_assign, after_brace, after_item, after_initializer, after_comma, after_braces, Declared}
-use Rattle.pk_grammar.specs.Machine.Steps.{taken, refused, reduced, one_more, more_specifiers, whole_declaration, end_alone, specifier_at, site_nesting, naming_nesting, with_initializer, without_length, after_declarator, declared_at, step, first_item, more_items, with_declarator, goes_on_declaring, next_word, alone}
+use Rattle.pk_grammar.specs.Machine.States.{Site, in_a_block, in_a_for, outside, in_declaration, Declaring, Naming, as_length, as_columns, as_value, as_whole, State, operand, complete, after_specifiers, after_name, after_length, after_columns, after_assign, at_initializer_item, after_initializer, after_comma, after_braces, Declared}
+use Rattle.pk_grammar.specs.Machine.Steps.{taken, refused, reduced, more_specifiers, whole_declaration, end_alone, specifier_at, site_nesting, naming_nesting, with_initializer, with_dimensions, without_dimensions, after_declarator, declared_at, step, with_declarator, goes_on_declaring, next_word, alone}
 use Rattle.pk_grammar.proofs.WordLemmas.{no_name, ends_in_no_enum, opens_braces}
-use Rattle.pk_grammar.proofs.CompleteLists.{tokens_of, Reads, reads_both, reads_one, reads_none, reads_head, reads_sign, reads_last, regrouped, reads_join_none}
+use Rattle.pk_grammar.proofs.CompleteLists.{tokens_of, Reads, reads_both, reads_one, reads_none, reads_head, reads_sign, reads_last, regrouped}
 use Rattle.pk_grammar.proofs.CompleteSigns.{Begins, sign_comma, sign_semicolon, sign_close_bracket}
 use Rattle.pk_grammar.proofs.CompleteOperands.{Ends, IsAt, ends_at_sign, same_false}
-use Rattle.pk_grammar.proofs.CompleteExpressions.{from_operand, readable, joined, joined_all, ReadsTo, reads_words, reads_specifiers}
-use Rattle.pk_grammar.proofs.CompleteEnumerations.{EndsItem, item_ends, step_open_braces, step_alone, step_name_behind, reads_braces}
+use Rattle.pk_grammar.proofs.CompleteExpressions.{from_operand, readable, ReadsTo, reads_words, reads_specifiers}
+use Rattle.pk_grammar.proofs.CompleteInitializers.{reads_braced}
+use Rattle.pk_grammar.proofs.CompleteEnumerations.{step_open_braces, step_alone, step_name_behind, reads_braces}
 
 -- Initializers
 
@@ -30,19 +31,28 @@ use Rattle.pk_grammar.proofs.CompleteEnumerations.{EndsItem, item_ends, step_ope
 abbrev pub Separates : Token → Type 0
 Separates t = (t.kind ≡ kind.Punctuator mark.Comma) ⊎ (t.kind ≡ kind.Punctuator mark.Semicolon)
 
--- a state behind a declarator's name and length
+-- a state behind a declarator's name and dimensions
 record HasName (s : State) (d : Naming) : Type 0 where
   at_assign : (t : Token) → t.kind ≡ kind.Punctuator mark.Assign → step s t ≡ taken (naming_nesting d) (after_assign d)
   at_separator : (t : Token) → Separates t → step s t ≡ after_declarator (with_initializer d None) t
 
-name_without_length : (d : Declaring) (id : Identifier) → HasName (after_name d id) (without_length d id)
-name_without_length d id = record {
+name_without_dimensions : (d : Declaring) (id : Identifier) → HasName (after_name d id) (without_dimensions d id)
+name_without_dimensions d id = record {
   at_assign = λ t e. rw e;
   at_separator = λ t h. elim h [ inl e ↦ rw e | inr e ↦ rw e ];
 }
 
-name_with_length : (d : Naming) → HasName (after_length d) d
-name_with_length d = record {
+abbrev with_length : Declaring → Identifier → ExpressionTree → Naming
+with_length d id e = with_dimensions d id (record { length = e; columns = None })
+
+name_with_length : (d : Declaring) (id : Identifier) (e : ExpressionTree) → HasName (after_length d id e) (with_length d id e)
+name_with_length d id e = record {
+  at_assign = λ t e. rw e;
+  at_separator = λ t h. elim h [ inl e ↦ rw e | inr e ↦ rw e ];
+}
+
+name_with_columns : (d : Naming) → HasName (after_columns d) d
+name_with_columns d = record {
   at_assign = λ t e. rw e;
   at_separator = λ t h. elim h [ inl e ↦ rw e | inr e ↦ rw e ];
 }
@@ -52,30 +62,57 @@ record ReadsName (s : State) (ms : List Marked) (rest : List Token) (d : Naming)
   reads : Reads s ms state rest
   has : HasName state d
 
-abbrev naming : Declaring → Identifier → Option ExpressionTree → Naming
-naming d id l = record { declaring = d; name = id; length = l }
+abbrev naming : Declaring → Identifier → Option DimensionsTree → Naming
+naming d id l = record { declaring = d; name = id; dimensions = l }
 
 pub step_length : (d : Declaring) (id : Identifier) (t : Token) → t.kind ≡ kind.Punctuator mark.OpenBracket →
     step (after_name d id) t ≡ taken (site_nesting d.site + 1) (operand (site_nesting d.site + 1) (as_whole (as_length d id)))
 step_length d id t e = rw e
 
-step_length_end : (n : ℕ) (e : ExpressionTree) (d : Declaring) (id : Identifier) (t : Token) → t.kind ≡ kind.Punctuator mark.CloseBracket →
-    step (complete n e (as_whole (as_length d id))) t ≡ taken (site_nesting d.site) (after_length (naming d id (Some e)))
+pub step_length_end : (n : ℕ) (e : ExpressionTree) (d : Declaring) (id : Identifier) (t : Token) → t.kind ≡ kind.Punctuator mark.CloseBracket →
+    step (complete n e (as_whole (as_length d id))) t ≡ taken (site_nesting d.site) (after_length d id e)
 unfolding reduced
 step_length_end n e d id t is = rw is
 
-reads_length : (d : Declaring) (id : Identifier) (l : Option ExpressionTree) {ms : List Marked} {rest : List Token} → array_length l (site_nesting d.site) ms →
-    ReadsName (after_name d id) ms rest (naming d id l)
-reads_length d id None h = record { state = after_name d id; reads = reads_none h; has = name_without_length d id }
-reads_length d id (Some e) {rest = rest} h = record {
-  state = after_length (naming d id (Some e));
+pub step_columns : (d : Declaring) (id : Identifier) (e : ExpressionTree) (t : Token) → t.kind ≡ kind.Punctuator mark.OpenBracket →
+    step (after_length d id e) t ≡ taken (site_nesting d.site + 1) (operand (site_nesting d.site + 1) (as_whole (as_columns d id e)))
+step_columns d id e t is = rw is
+
+pub step_columns_end : (n : ℕ) (c : ExpressionTree) (d : Declaring) (id : Identifier) (e : ExpressionTree) (t : Token) → t.kind ≡ kind.Punctuator mark.CloseBracket →
+    step (complete n c (as_whole (as_columns d id e))) t ≡ taken (site_nesting d.site) (after_columns (with_dimensions d id (record { length = e; columns = Some c })))
+unfolding reduced
+step_columns_end n c d id e t is = rw is
+
+reads_columns : (d : Declaring) (id : Identifier) (e : ExpressionTree) (c : Option ExpressionTree) {ms : List Marked} {rest : List Token} → array_length c (site_nesting d.site) ms →
+    ReadsName (after_length d id e) ms rest (with_dimensions d id (record { length = e; columns = c }))
+reads_columns d id e None h = record { state = after_length d id e; reads = reads_none h; has = name_with_length d id e }
+reads_columns d id e (Some c) {rest = rest} h = record {
+  state = after_columns (with_dimensions d id (record { length = e; columns = Some c }));
   reads = reads_last h.front h.cut h.second
-      (reads_head h.first (step_length d id h.first.first.token h.first.first.holds)
-      ((readable e).reads 2 (site_nesting d.site + 1) h.first.back (as_whole (as_length d id)) h.second.token rest h.first.second.fits h.first.second.is (omega arith)
+      (reads_head h.first (step_columns d id e h.first.first.token h.first.first.holds)
+      ((readable c).reads 2 (site_nesting d.site + 1) h.first.back (as_whole (as_columns d id e)) h.second.token rest h.first.second.fits h.first.second.is (omega arith)
       (ends_at_sign _ _ h.second.token sign_close_bracket h.second.holds (omega arith))))
-      (step_length_end (site_nesting d.site + 1) e d id h.second.token h.second.holds);
-  has = name_with_length (naming d id (Some e));
+      (step_columns_end (site_nesting d.site + 1) c d id e h.second.token h.second.holds);
+  has = name_with_columns (with_dimensions d id (record { length = e; columns = Some c }));
 }
+
+reads_dimensions : (d : Declaring) (id : Identifier) (l : Option DimensionsTree) {ms : List Marked} {rest : List Token} → dimensions l (site_nesting d.site) ms →
+    ReadsName (after_name d id) ms rest (naming d id l)
+reads_dimensions d id None h = record { state = after_name d id; reads = reads_none h; has = name_without_dimensions d id }
+reads_dimensions d id (Some l) {rest = rest} h =
+    let g = h.first in
+    let c = reads_columns d id l.length l.columns {rest = rest} h.second in
+    record {
+      state = c.state;
+      reads = reads_both h
+          (reads_last g.front g.cut g.second
+          (reads_head g.first (step_length d id g.first.first.token g.first.first.holds)
+          ((readable l.length).reads 2 (site_nesting d.site + 1) g.first.back (as_whole (as_length d id)) g.second.token (tokens_of h.back ++ rest) g.first.second.fits g.first.second.is (omega arith)
+          (ends_at_sign _ _ g.second.token sign_close_bracket g.second.holds (omega arith))))
+          (step_length_end (site_nesting d.site + 1) l.length d id g.second.token g.second.holds))
+          c.reads;
+      has = c.has;
+    }
 
 step_value_end : (n : ℕ) (e : ExpressionTree) (d : Naming) (t : Token) → Separates t → step (complete n e (as_whole (as_value d))) t ≡ after_declarator (with_initializer d (Some (single e))) t
 unfolding reduced
@@ -87,103 +124,11 @@ separator_ends c t h = elim h [ inl e ↦ ends_at_sign _ _ t sign_comma e (omega
 step_value : (d : Naming) (t : Token) → Begins t.kind → step (after_assign d) t ≡ step (operand (naming_nesting d) (as_whole (as_value d))) t
 step_value d t b = same_false (is_fixed fixed.OpenBrace t.kind) _ _ b.no_open_brace
 
-step_brace : (d : Naming) (t : Token) (at : Pos) → IsAt mark.OpenBrace at t → step (after_assign d) t ≡ taken (naming_nesting d) (after_brace d at)
+step_brace : (d : Naming) (t : Token) (at : Pos) → IsAt mark.OpenBrace at t → step (after_assign d) t ≡ taken (naming_nesting d) (at_initializer_item (record { naming = d; brace = at; items = [] }))
 step_brace d t at e = rw (e.0, e.1)
-
-step_item : (d : Naming) (at : Pos) (e : ExpressionTree) (es : ExpressionTrees) (t : Token) → Begins t.kind → step (after_item d at e es) t ≡ step (operand (naming_nesting d) (as_whole (as_item d at (expression_then e es)))) t
-step_item d at e es t b = same_false (is_fixed fixed.CloseBrace t.kind) _ _ b.no_close_brace
-
--- the items of a braced list are read
-record ReadsItems (s : State) (ms : List Marked) (t : Token) (rest : List Token) (d : Naming) (at : Pos) (e : ExpressionTree) (es : ExpressionTrees) : Type 0 where
-  state : State
-  reads : Reads s ms state (t ∷ rest)
-  closes : t.kind ≡ kind.Punctuator mark.CloseBrace → step state t ≡ taken (naming_nesting d) (after_initializer (with_initializer d (Some (braced at e es))))
-  goes_on : t.kind ≡ kind.Punctuator mark.Comma → step state t ≡ taken (naming_nesting d) (after_item d at e es)
-
-step_items_close : (n : ℕ) (e : ExpressionTree) (d : Naming) (at : Pos) (es : ExpressionTrees) (t : Token) → t.kind ≡ kind.Punctuator mark.CloseBrace →
-    step (complete n e (as_whole (as_item d at es))) t ≡ taken (naming_nesting d) (after_initializer (with_initializer d (Some (braced at (first_item es e) (more_items es e)))))
-unfolding reduced
-step_items_close n e d at es t is = rw is
-
-step_items_comma : (n : ℕ) (e : ExpressionTree) (d : Naming) (at : Pos) (es : ExpressionTrees) (t : Token) → t.kind ≡ kind.Punctuator mark.Comma →
-    step (complete n e (as_whole (as_item d at es))) t ≡ taken (naming_nesting d) (after_item d at (first_item es e) (more_items es e))
-unfolding reduced
-step_items_comma n e d at es t is = rw is
-
--- what follows the first one of those that were read, of one more, and of these
-abbrev after_first : ExpressionTrees → ExpressionTree → ExpressionTrees → ExpressionTrees
-after_first no_expressions e es = es
-after_first (expression_then d ds) e es = joined ds (expression_then e es)
-
-after_first-none : (done : ExpressionTrees) (e : ExpressionTree) → more_items done e ≡ after_first done e no_expressions
-after_first-none no_expressions e = refl
-after_first-none (expression_then d ds) e = refl
-
-first_item-more : (done : ExpressionTrees) (e next : ExpressionTree) → first_item (one_more done e) next ≡ first_item done e
-first_item-more no_expressions e next = refl
-first_item-more (expression_then d ds) e next = refl
-
-after_first-more : (done : ExpressionTrees) (e next : ExpressionTree) (es : ExpressionTrees) → after_first (one_more done e) next es ≡ after_first done e (expression_then next es)
-after_first-more no_expressions e next es = joined_all (expression_then next es)
-after_first-more (expression_then d ds) e next es = refl
-
-after_one_more : (done : ExpressionTrees) (e : ExpressionTree) → expression_then (first_item done e) (more_items done e) ≡ one_more done e
-after_one_more no_expressions e = refl
-after_one_more (expression_then d ds) e = refl
-
-reads_items : (es : ExpressionTrees) (e : ExpressionTree) (d : Naming) (at : Pos) (done : ExpressionTrees) (s : State) (t : Token) (rest : List Token) (ms : List Marked) →
-    ((t : Token) → Begins t.kind → step s t ≡ step (operand (naming_nesting d) (as_whole (as_item d at done))) t) → Fits 1 e → AllFit es →
-    (spelled e ⊙ spelled_more es) (naming_nesting d) ms → EndsItem t → ReadsItems s ms t rest d at (first_item done e) (after_first done e es)
-unfolding spelled_more
-reads_items no_expressions e d at done s t rest ms same f fs h ends = subst (λ es. ReadsItems s ms t rest d at (first_item done e) es) (after_first-none done e) (record {
-  state = complete (naming_nesting d) e (as_whole (as_item d at done));
-  reads = reads_join_none h.cut h.second
-      (from_operand e (naming_nesting d) h.front h.first same
-      ((readable e).reads 1 (naming_nesting d) h.front (as_whole (as_item d at done)) t rest f h.first (omega arith) (item_ends _ t ends)));
-  closes = step_items_close (naming_nesting d) e d at done t;
-  goes_on = step_items_comma (naming_nesting d) e d at done t;
-})
-reads_items (expression_then e' es) e d at done s t rest ms same f fs h ends =
-    let g = h.second in
-    let k = g.first.token in
-    let begins : (t : Token) → Begins t.kind → step (after_item d at (first_item done e) (more_items done e)) t ≡ step (operand (naming_nesting d) (as_whole (as_item d at (one_more done e)))) t
-    = λ t b. step_item d at (first_item done e) (more_items done e) t b ∙ ap (λ all. step (operand (naming_nesting d) (as_whole (as_item d at all))) t) (after_one_more done e) in
-    let more = reads_items es e' d at (one_more done e) (after_item d at (first_item done e) (more_items done e)) t rest g.back begins fs.0 fs.1 g.second ends in
-    subst (λ all. ReadsItems s ms t rest d at all (after_first done e (expression_then e' es))) (first_item-more done e e')
-    (subst (λ all. ReadsItems s ms t rest d at (first_item (one_more done e) e') all) (after_first-more done e e' es) (record {
-      state = more.state;
-      reads = reads_sign h.front h.cut g
-          (from_operand e (naming_nesting d) h.front h.first same
-          ((readable e).reads 1 (naming_nesting d) h.front (as_whole (as_item d at done)) k (tokens_of g.back ++ t ∷ rest) f h.first (omega arith)
-          (item_ends _ k (inl g.first.holds))))
-          (step_items_comma (naming_nesting d) e d at done k g.first.holds)
-          more.reads;
-      closes = more.closes;
-      goes_on = more.goes_on;
-    }))
-
-pub step_last_comma : (d : Naming) (at : Pos) (e : ExpressionTree) (es : ExpressionTrees) (t : Token) → t.kind ≡ kind.Punctuator mark.CloseBrace →
-    step (after_item d at e es) t ≡ taken (naming_nesting d) (after_initializer (with_initializer d (Some (braced at e es))))
-step_last_comma d at e es t is = rw is
-
--- behind the items: a comma or none, and the brace
-reads_brace : (d : Naming) (at : Pos) (e : ExpressionTree) (es : ExpressionTrees) (s : State) (ts front back : List Marked) (t : Token) (rest : List Token) → ts ≡ front ++ back →
-    (c : (Optional (punctuator mark.Comma) ⊙ punctuator mark.CloseBrace) (naming_nesting d) back) →
-    ((t : Token) (rest : List Token) → EndsItem t → ReadsItems s front t rest d at e es) →
-    Reads s ts (after_initializer (with_initializer d (Some (braced at e es)))) (t ∷ rest)
-reads_brace d at x es s ts front back t rest cut c items = elim c.first [
-  | inl e ↦
-      let r = items c.second.token (t ∷ rest) (inr c.second.holds) in
-      reads_last front (cut ∙ ap (λ b. front ++ b) (c.cut ∙ ap (λ f. f ++ c.back) e)) c.second r.reads (r.closes c.second.holds)
-  | inr comma ↦
-      let r = items comma.token (tokens_of c.back ++ t ∷ rest) (inl comma.holds) in
-      reads_sign {Q = punctuator mark.CloseBrace} front cut (record { front = c.front; back = c.back; cut = c.cut; first = comma; second = c.second }) r.reads (r.goes_on comma.holds)
-      (reads_one c.second (step_last_comma d at x es c.second.token c.second.holds))
-]
 
 reads_initializer : (i : Option InitializerTree) (d : Naming) (s : State) → HasName s d → (t : Token) (rest : List Token) → Separates t → (ms : List Marked) → initializer i (naming_nesting d) ms →
     ReadsTo s ms t rest (after_declarator (with_initializer d i) t)
-unfolding spelled_list
 reads_initializer None d s has t rest sep ms h = record { state = s; reads = reads_none h; then = has.at_separator t sep }
 reads_initializer (Some (single e)) d s has t rest sep ms h = record {
   state = complete (naming_nesting d) e (as_whole (as_value d));
@@ -192,15 +137,12 @@ reads_initializer (Some (single e)) d s has t rest sep ms h = record {
       ((readable e).reads 1 (naming_nesting d) h.back (as_whole (as_value d)) t rest h.second.fits h.second.is (omega arith) (separator_ends _ t sep)));
   then = step_value_end (naming_nesting d) e d t sep;
 }
-reads_initializer (Some (braced at e es)) d s has t rest sep ms h =
+reads_initializer (Some (braced at items)) d s has t rest sep ms h =
     let a = h.second in
-    let b = a.second in
     record {
-      state = after_initializer (with_initializer d (Some (braced at e es)));
+      state = after_initializer (with_initializer d (Some (braced at items)));
       reads = reads_head h (has.at_assign h.first.token h.first.holds)
-          (reads_head a (step_brace d a.first.token at a.first.holds)
-          (reads_brace d at e es (after_brace d at) a.back b.front b.back t rest b.cut b.second
-          (λ t rest ends. reads_items es e d at no_expressions (after_brace d at) t rest b.front (λ t f. refl) b.first.fit.0 b.first.fit.1 b.first.is ends)));
+          (reads_head a (step_brace d a.first.token at a.first.holds) (reads_braced items d at (t ∷ rest) a.back a.second));
       then = refl;
     }
 
@@ -210,8 +152,8 @@ reads_declarator : (x : DeclaratorTree) (d : Declaring) (s : State) → ((t : To
     (t : Token) (rest : List Token) → Separates t → (ms : List Marked) → declarator x (site_nesting d.site) ms → ReadsTo s ms t rest (after_declarator (with_declarator d x) t)
 reads_declarator x d s names t rest sep ms h =
     let g = h.second in
-    let l = reads_length d x.name x.length {rest = tokens_of g.back ++ t ∷ rest} g.first in
-    let i = reads_initializer x.initializer (naming d x.name x.length) l.state l.has t rest sep g.back g.second in
+    let l = reads_dimensions d x.name x.dimensions {rest = tokens_of g.back ++ t ∷ rest} g.first in
+    let i = reads_initializer x.initializer (naming d x.name x.dimensions) l.state l.has t rest sep g.back g.second in
     record {
       state = i.state;
       reads = reads_both h (reads_one h.first (names h.first.token h.first.holds.0 ∙ ap (λ id. taken (site_nesting d.site) (after_name d id)) h.first.holds.1))

@@ -12,7 +12,7 @@ use Rattle.pk_ast.specs.declared.operators.BinaryOperator.{BinaryOperator}
 use Rattle.pk_ast.specs.declared.operators.UnaryOperator.{UnaryOperator}
 use Rattle.pk_ast.specs.declared.operators.StepOperator.{StepOperator}
 use Rattle.pk_ast.specs.declared.operators.AssignmentOperator.{AssignmentOperator}
-use Rattle.pk_ast.specs.Trees.{OneOrMore, ExpressionTree, name, call, index, constant, character, parenthesized, postfix, prefix, unary, cast, binary, conditional, assignment, comma, ExpressionTrees, no_expressions, expression_then}
+use Rattle.pk_ast.specs.Trees.{OneOrMore, ExpressionTree, name, call, index, element, constant, character, parenthesized, postfix, prefix, unary, cast, binary, conditional, assignment, comma, ExpressionTrees, no_expressions, expression_then}
 use Rattle.pk_ast.specs.Lists.{one, with_last}
 use Rattle.pk_grammar.specs.declared.signs.OperandStart.{OperandStart}
 use Rattle.pk_grammar.specs.declared.signs.OperandStart.TheVariants as start
@@ -20,12 +20,12 @@ use Rattle.pk_grammar.specs.declared.signs.Shape.TheVariants as shape
 use Rattle.pk_grammar.specs.Languages.{Marked, One, Identified, ◌⊙◌}
 use Rattle.pk_grammar.specs.Grammar.{unary_sign, step_sign, strength, Fits, AllFit, operators_in, commas_in, spelled, spelled_list, spelled_more, all_of, words, specifiers, punctuator, specifier_list}
 use Rattle.pk_grammar.specs.Machine.Signs.{operand_start, operator_of, specifier_word, shape_of}
-use Rattle.pk_grammar.specs.Machine.States.{Context, in_parentheses, in_index, in_call, in_prefix, in_unary, in_cast, in_binary, in_choice, in_alternative, in_assignment, in_comma, State, operand, named, opened, cast_specifiers, complete}
+use Rattle.pk_grammar.specs.Machine.States.{Context, in_parentheses, in_index, in_column, in_call, in_prefix, in_unary, in_cast, in_binary, in_choice, in_alternative, in_assignment, in_comma, State, operand, named, opened, cast_specifiers, complete}
 use Rattle.pk_grammar.specs.Machine.Steps.{Verdict, taken, operand_level, one_more, specifier_at, step, next_word}
 use Rattle.pk_grammar.proofs.CompleteLists.{tokens_of, Reads, reads_both, reads_one, reads_none, reads_from, reads_to, reads_head, reads_sign, reads_last, regrouped, reads_join_none}
 use Rattle.pk_grammar.proofs.CompleteSigns.{takes, strength_most, takes_no_unary, sign_binary, sign_step, sign_assignment, sign_close, sign_close_bracket, sign_comma, sign_question, unary_start, step_start, Begins, begins}
 use Rattle.pk_grammar.proofs.CompleteReduced.{reduced_prefix, reduced_unary, reduced_cast, reduced_binary, reduced_alternative, reduced_assignment, reduced_comma, complete_same}
-use Rattle.pk_grammar.proofs.CompleteOperands.{Ends, ends_at_sign, ends_at_colon, step_name, step_constant, step_character, step_open, step_prefix, step_unary, step_named, step_call, step_index, step_no_arguments, step_arguments, step_opened, step_cast, step_more_cast, step_cast_end, step_binary, step_postfix, step_question, step_colon, step_assignment, step_comma, step_parenthesized, step_indexed, step_called, step_argument}
+use Rattle.pk_grammar.proofs.CompleteOperands.{Ends, ends_at_sign, ends_at_colon, step_name, step_constant, step_character, step_open, step_prefix, step_unary, step_named, step_call, step_index, step_no_column, step_column, step_no_arguments, step_arguments, step_opened, step_cast, step_more_cast, step_cast_end, step_binary, step_postfix, step_question, step_colon, step_assignment, step_comma, step_parenthesized, step_indexed, step_element, step_called, step_argument}
 use Rattle.pk_grammar.proofs.WordLemmas.{Continues, continues_on, shape_with_last, next_is, first_is, ends_in_no_enum}
 
 -- The first token of an expression
@@ -54,6 +54,7 @@ unfolding spelled
 starts (name id) n ms h = name_starts h
 starts (call id es) n ms h = starts_front h (name_starts h.first)
 starts (index id at e) n ms h = starts_front h (name_starts h.first)
+starts (element id at e column_at c) n ms h = starts_front h (name_starts h.first)
 starts (constant at t v) n ms h = starts_one h (kind_starts h.token.kind (kind.Constant t v) _ h.holds.0 refl (λ e. cc))
 starts (character at v) n ms h = starts_one h (kind_starts h.token.kind (kind.Character v) _ h.holds.0 refl (λ e. cc))
 starts (parenthesized at e) n ms h = starts_front h (starts_front h.first (starts_one h.first.first (kind_starts h.first.first.token.kind (kind.Punctuator mark.OpenParenthesis) _ h.first.first.holds.0 refl (λ e. cc))))
@@ -119,12 +120,34 @@ unfolding spelled
 readable_index id at e r = record {
   reads = λ level n ms c t rest f h l ends.
       let g = h.second in
-      reads_both h (reads_name id n c h.first)
+      reads_to t rest
+      (reads_both h (reads_name id n c h.first)
       (reads_last g.front g.cut g.second
       (reads_head g.first (step_index n id at c g.first.first.token g.first.first.holds)
       (r.reads 0 (n + 1) g.first.back (in_index n id at c) g.second.token (t ∷ rest) f g.first.second (omega arith)
       (ends_at_sign _ _ g.second.token sign_close_bracket g.second.holds (omega arith))))
-      (step_indexed n (n + 1) id at e c g.second.token g.second.holds));
+      (step_indexed n (n + 1) id at e c g.second.token g.second.holds)))
+      (step_no_column n id at e c t ends);
+}
+
+readable_element : (id : Identifier) (at : Pos) (e : ExpressionTree) (column_at : Pos) (d : ExpressionTree) → Readable e → Readable d → Readable (element id at e column_at d)
+unfolding spelled
+readable_element id at e column_at d r q = record {
+  reads = λ level n ms c t rest f h l ends.
+      let g = h.second in
+      let s = g.second in
+      let k = s.second in
+      reads_both h (reads_name id n c h.first)
+      (reads_sign g.front g.cut s
+      (reads_head g.first (step_index n id at c g.first.first.token g.first.first.holds)
+      (r.reads 0 (n + 1) g.first.back (in_index n id at c) s.first.token (tokens_of s.back ++ t ∷ rest) f.0 g.first.second (omega arith)
+      (ends_at_sign _ _ s.first.token sign_close_bracket s.first.holds (omega arith))))
+      (step_indexed n (n + 1) id at e c s.first.token s.first.holds)
+      (reads_last k.front k.cut k.second
+      (reads_head k.first (step_column n id at e column_at c k.first.first.token k.first.first.holds)
+      (q.reads 0 (n + 1) k.first.back (in_column n id at e column_at c) k.second.token (t ∷ rest) f.1 k.first.second (omega arith)
+      (ends_at_sign _ _ k.second.token sign_close_bracket k.second.holds (omega arith))))
+      (step_element n (n + 1) id at e column_at d c k.second.token k.second.holds)));
 }
 
 -- Operators behind an operand
@@ -380,6 +403,7 @@ mutual
   readable (name id) = readable_name id
   readable (call id es) = readable_call id es (all_readable es)
   readable (index id at e) = readable_index id at e (readable e)
+  readable (element id at e column_at c) = readable_element id at e column_at c (readable e) (readable c)
   readable (constant at t v) = readable_constant at t v
   readable (character at v) = readable_character at v
   readable (parenthesized at e) = readable_parenthesized at e (readable e)

@@ -13,14 +13,14 @@ use Rattle.pk_ast.specs.declared.operators.BinaryOperator.{BinaryOperator}
 use Rattle.pk_ast.specs.declared.operators.UnaryOperator.{UnaryOperator}
 use Rattle.pk_ast.specs.declared.operators.StepOperator.{StepOperator}
 use Rattle.pk_ast.specs.declared.operators.AssignmentOperator.{AssignmentOperator}
-use Rattle.pk_ast.specs.Trees.{OneOrMore, ExpressionTree, name, call, index, constant, character, parenthesized, postfix, cast, binary, conditional, assignment, comma, ExpressionTrees, no_expressions}
+use Rattle.pk_ast.specs.Trees.{OneOrMore, ExpressionTree, name, call, index, element, constant, character, parenthesized, postfix, cast, binary, conditional, assignment, comma, ExpressionTrees, no_expressions}
 use Rattle.pk_ast.specs.Lists.{one, with_last}
 use Rattle.pk_grammar.specs.declared.signs.Fixed.TheVariants as fixed
 use Rattle.pk_grammar.specs.declared.signs.Operator.{Operator}
 use Rattle.pk_grammar.specs.Languages.{identifier_of}
 use Rattle.pk_grammar.specs.Grammar.{binary_sign, unary_sign, step_sign, assignment_sign, strength, Fits, operators_in, postfixes_in, commas_in}
 use Rattle.pk_grammar.specs.Machine.Signs.{is_fixed, operand_start, operator_of, specifier_word}
-use Rattle.pk_grammar.specs.Machine.States.{as_statement, as_label, as_test, as_last_test, as_first, as_second, as_third, as_result, as_length, as_value, as_item, as_enumerator, Context, as_whole, in_parentheses, in_index, in_call, in_prefix, in_unary, in_cast, in_binary, in_choice, in_alternative, in_assignment, in_comma, operand, named, arguments, opened, cast_specifiers, complete}
+use Rattle.pk_grammar.specs.Machine.States.{as_statement, as_label, as_test, as_last_test, as_first, as_second, as_third, as_result, as_length, as_columns, as_value, as_item, as_row_item, as_enumerator, Context, as_whole, in_parentheses, in_index, in_column, in_call, in_prefix, in_unary, in_cast, in_binary, in_choice, in_alternative, in_assignment, in_comma, operand, named, indexed, arguments, opened, cast_specifiers, complete}
 use Rattle.pk_grammar.specs.Machine.Steps.{taken, refused, Reduced, reduced, operand_level, begin_operand, go_on, join_binary, join_question, join_assignment, join_comma, is_unary, comma_after, open_cast, more_cast, specifier_at, one_more, step, next_word, end_in_enum}
 use Rattle.pk_grammar.proofs.CompleteSigns.{takes, strength_least, strength_most, Sign, sign_binary, sign_step, sign_assignment, unary_start, step_start, Begins}
 use Rattle.pk_grammar.proofs.CompleteReduced.{kept}
@@ -83,6 +83,15 @@ step_call n id c t e = rw e
 
 pub step_index : (n : ℕ) (id : Identifier) (at : Pos) (c : Context) (t : Token) → IsAt mark.OpenBracket at t → step (named n id c) t ≡ taken (n + 1) (operand (n + 1) (in_index n id at c))
 step_index n id at c t e = rw (e.0, e.1)
+
+-- behind an index
+
+pub step_no_column : {level : ℕ} (n : ℕ) (id : Identifier) (at : Pos) (e : ExpressionTree) (c : Context) (t : Token) → Ends level c t.kind → step (indexed n id at e c) t ≡ step (complete n (index id at e) c) t
+step_no_column n id at e c t h = same_false (is_fixed fixed.OpenBracket t.kind) _ _ h.no_index
+
+pub step_column : (n : ℕ) (id : Identifier) (at : Pos) (e : ExpressionTree) (column_at : Pos) (c : Context) (t : Token) → IsAt mark.OpenBracket column_at t →
+    step (indexed n id at e c) t ≡ taken (n + 1) (operand (n + 1) (in_column n id at e column_at c))
+step_column n id at e column_at c t is = rw (is.0, is.1)
 
 pub step_no_arguments : (n : ℕ) (id : Identifier) (c : Context) (t : Token) → t.kind ≡ kind.Punctuator mark.CloseParenthesis →
     step (arguments n id c) t ≡ taken n (complete n (call id no_expressions) c)
@@ -170,11 +179,14 @@ comma_joins n e (as_whole (as_second m at f o)) t h = refl
 comma_joins n e (as_whole (as_third m at f d o)) t h = refl
 comma_joins n e (as_whole (as_result m at o)) t h = refl
 comma_joins n e (as_whole (as_length d id)) t h = absurd (omega arith)
+comma_joins n e (as_whole (as_columns d id l)) t h = absurd (omega arith)
 comma_joins n e (as_whole (as_value d)) t h = absurd (omega arith)
-comma_joins n e (as_whole (as_item d at es)) t h = absurd (omega arith)
+comma_joins n e (as_whole (as_item d)) t h = absurd (omega arith)
+comma_joins n e (as_whole (as_row_item d at es)) t h = absurd (omega arith)
 comma_joins n e (as_whole (as_enumerator d id)) t h = absurd (omega arith)
 comma_joins n e (in_parentheses m at c) t h = refl
 comma_joins n e (in_index m id at c) t h = refl
+comma_joins n e (in_column m id at d column_at c) t h = refl
 comma_joins n e (in_call m id es c) t h = absurd (omega arith)
 comma_joins n e (in_prefix m o at c) t h = absurd (omega arith)
 comma_joins n e (in_unary m o at c) t h = absurd (omega arith)
@@ -201,9 +213,14 @@ unfolding reduced
 step_parenthesized n m at e c t is = rw is
 
 pub step_indexed : (n m : ℕ) (id : Identifier) (at : Pos) (e : ExpressionTree) (c : Context) (t : Token) → t.kind ≡ kind.Punctuator mark.CloseBracket →
-    step (complete m e (in_index n id at c)) t ≡ taken n (complete n (index id at e) c)
+    step (complete m e (in_index n id at c)) t ≡ taken n (indexed n id at e c)
 unfolding reduced
 step_indexed n m id at e c t is = rw is
+
+pub step_element : (n m : ℕ) (id : Identifier) (at : Pos) (d : ExpressionTree) (column_at : Pos) (e : ExpressionTree) (c : Context) (t : Token) → t.kind ≡ kind.Punctuator mark.CloseBracket →
+    step (complete m e (in_column n id at d column_at c)) t ≡ taken n (complete n (element id at d column_at e) c)
+unfolding reduced
+step_element n m id at d column_at e c t is = rw is
 
 pub step_called : (n m : ℕ) (id : Identifier) (es : ExpressionTrees) (e : ExpressionTree) (c : Context) (t : Token) → t.kind ≡ kind.Punctuator mark.CloseParenthesis →
     step (complete m e (in_call n id es c)) t ≡ taken n (complete n (call id (one_more es e)) c)

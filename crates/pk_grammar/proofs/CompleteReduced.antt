@@ -9,7 +9,7 @@ use Rattle.pk_grammar.specs.declared.signs.Operator.{Operator}
 use Rattle.pk_grammar.specs.declared.signs.Operator.TheVariants as operator
 use Rattle.pk_grammar.specs.Grammar.{strength, any_expression, assignment_expression, conditional_expression}
 use Rattle.pk_grammar.specs.Machine.Signs.{operator_of}
-use Rattle.pk_grammar.specs.Machine.States.{Context, as_whole, in_parentheses, in_index, in_call, in_prefix, in_unary, in_cast, in_binary, in_choice, in_alternative, in_assignment, in_comma, complete}
+use Rattle.pk_grammar.specs.Machine.States.{Context, as_whole, in_parentheses, in_index, in_column, in_call, in_prefix, in_unary, in_cast, in_binary, in_choice, in_alternative, in_assignment, in_comma, complete}
 use Rattle.pk_grammar.specs.Machine.Steps.{Reduced, reduced, operand_level, join_binary, join_question, join_assignment, comma_after, end_expression, go_on, step}
 use Rattle.pk_grammar.proofs.CompleteSigns.{takes}
 
@@ -20,6 +20,7 @@ unfolding reduced
 kept l n e (as_whole p) h g f = refl
 kept l n e (in_parentheses m at c) h g f = refl
 kept l n e (in_index m id at c) h g f = refl
+kept l n e (in_column m id at d column_at c) h g f = refl
 kept l n e (in_call m id es c) h g f = refl
 kept l n e (in_prefix m o at c) h g f = absurd (omega arith)
 kept l n e (in_unary m o at c) h g f = absurd (omega arith)

@@ -2,8 +2,8 @@
 use Rattle.std.proofs.Common.{◌≡◌, ℕ, List, [], ◌∷◌, None, Bool, true, false, if◌then◌else◌, refl, sym, subst}
 use Rattle.pk_lex.specs.declared.token.Token.{Token}
 use Rattle.pk_ast.specs.declared.declarations.Specifier.{Specifier}
-use Rattle.pk_ast.specs.Trees.{OneOrMore, EnumeratorTree, EnumerationTree, ExpressionTree, name, call, index, constant, character, parenthesized, postfix, prefix, unary, cast, binary, conditional, assignment, comma, StatementTree, label, case, default, if_then, if_else, switch, while, for_loop}
-use Rattle.pk_grammar.specs.Machine.States.{EnumerationSite, in_declaration, in_typedef, Outer, in_block, in_label, in_case, in_default, in_if, in_else, in_switch, in_while, in_do, in_for, Purpose, as_statement, as_label, as_test, as_last_test, as_first, as_second, as_third, as_result, as_length, as_value, as_item, as_enumerator, Context, as_whole, in_parentheses, in_index, in_call, in_prefix, in_unary, in_cast, in_binary, in_choice, in_alternative, in_assignment, in_comma, State, top, after_storage, after_typedef, type_specifiers, after_type_name, type_name_comma, at_enumerator, after_enumerator_name, after_braces, after_specifiers, after_name, after_length, after_assign, after_brace, after_item, after_initializer, after_comma, parameters_open, parameter_specifiers, parameter_name, parameter_comma, parameters_closed, block_item, after_static, at_statement, after_statement, test_open, do_open, for_open, for_first, for_second, for_third, default_colon, goto_name, returning, statement_end, operand, named, arguments, opened, cast_specifiers, complete}
+use Rattle.pk_ast.specs.Trees.{OneOrMore, EnumeratorTree, EnumerationTree, ExpressionTree, name, index, StatementTree, label, case, default, if_then, if_else, switch, while, for_loop}
+use Rattle.pk_grammar.specs.Machine.States.{EnumerationSite, in_declaration, in_typedef, Outer, in_block, in_label, in_case, in_default, in_if, in_else, in_switch, in_while, in_do, in_for, Purpose, as_statement, as_label, as_test, as_last_test, as_first, as_second, as_third, as_result, as_length, as_columns, as_value, as_item, as_row_item, as_enumerator, Context, as_whole, in_parentheses, in_index, in_column, in_call, in_prefix, in_unary, in_cast, in_binary, in_choice, in_alternative, in_assignment, in_comma, State, top, after_storage, after_typedef, type_specifiers, after_type_name, type_name_comma, at_enumerator, after_enumerator_name, after_braces, after_specifiers, after_name, after_length, after_columns, after_assign, at_initializer_item, at_row_item, after_row, after_initializer, after_comma, parameters_open, parameter_specifiers, parameter_name, parameter_comma, parameters_closed, block_item, after_static, at_statement, after_statement, test_open, do_open, for_open, for_first, for_second, for_third, default_colon, goto_name, returning, statement_end, operand, named, indexed, arguments, opened, cast_specifiers, complete}
 use Rattle.pk_grammar.specs.Machine.Steps.{Verdict, taken, refused, finished, Reduced, reduced, labelled, end_purpose, end_expression, resume, step, more_cast, end_braces, behind_braces, more_typedef, more_specifiers, more_parameter, next_word, end_in_enum}
 use Rattle.pk_grammar.specs.Machine.Running.{end_of}
 use Rattle.pk_grammar.proofs.WordLemmas.{no_next}
@@ -20,19 +20,7 @@ either_refused false = tt
 module _ (t : Token) where
   labelled_end : (n : ℕ) (e : ExpressionTree) (o : Outer) → IsNotTaken (labelled n e o (end_of t))
   labelled_end n (name id) o = tt
-  labelled_end n (call id es) o = tt
-  labelled_end n (index id at e) o = tt
-  labelled_end n (constant at ty v) o = tt
-  labelled_end n (character at v) o = tt
-  labelled_end n (parenthesized at e) o = tt
-  labelled_end n (postfix p at e) o = tt
-  labelled_end n (prefix p at e) o = tt
-  labelled_end n (unary p at e) o = tt
-  labelled_end n (cast at specs e) o = tt
-  labelled_end n (binary p at a b) o = tt
-  labelled_end n (conditional at d a b) o = tt
-  labelled_end n (assignment p at a b) o = tt
-  labelled_end n (comma at a b) o = tt
+  labelled_end n _ o = tt
 
   purpose_end : (p : Purpose) (e : ExpressionTree) → IsNotTaken (end_purpose p e (end_of t))
   purpose_end (as_statement n o) e = labelled_end n e o
@@ -44,14 +32,17 @@ module _ (t : Token) where
   purpose_end (as_third n at f second o) e = tt
   purpose_end (as_result n at o) e = tt
   purpose_end (as_length d id) e = tt
+  purpose_end (as_columns d id c) e = tt
   purpose_end (as_value d) e = tt
-  purpose_end (as_item d at es) e = tt
+  purpose_end (as_item d) e = tt
+  purpose_end (as_row_item d at es) e = tt
   purpose_end (as_enumerator d id) e = tt
 
   expression_end : (e : ExpressionTree) (c : Context) → IsNotTaken (end_expression e c (end_of t))
   expression_end e (as_whole p) = purpose_end p e
   expression_end e (in_parentheses n at c) = tt
   expression_end e (in_index n id at c) = tt
+  expression_end e (in_column n id at d column_at c) = tt
   expression_end e (in_call n id es c) = tt
   expression_end e (in_prefix n o at c) = tt
   expression_end e (in_unary n o at c) = tt
@@ -98,10 +89,12 @@ module _ (t : Token) where
   not_taken (after_braces s specs e) = behind_end s specs e
   not_taken (after_specifiers s specs) = subst (λ w. IsNotTaken (more_specifiers s specs (end_of t) w)) (sym (no_word specs)) tt
   not_taken (after_name d id) = tt
-  not_taken (after_length d) = tt
+  not_taken (after_length d id e) = tt
+  not_taken (after_columns d) = tt
   not_taken (after_assign d) = tt
-  not_taken (after_brace d at) = tt
-  not_taken (after_item d at e es) = tt
+  not_taken (at_initializer_item d) = tt
+  not_taken (at_row_item d at es) = tt
+  not_taken (after_row d) = tt
   not_taken (after_initializer d) = tt
   not_taken (after_comma d) = tt
   not_taken (parameters_open h) = tt
@@ -125,6 +118,7 @@ module _ (t : Token) where
   not_taken (statement_end n s o) = tt
   not_taken (operand n c) = tt
   not_taken (named n id c) = let r : Reduced = reduced 0 n (name id) c in expression_end r.tree r.context
+  not_taken (indexed n id at e c) = let r : Reduced = reduced 0 n (index id at e) c in expression_end r.tree r.context
   not_taken (arguments n id c) = tt
   not_taken (opened n at c) = tt
   not_taken (cast_specifiers n at specs c) = subst (λ w. IsNotTaken (more_cast n at specs c (end_of t) w)) (sym (no_word specs)) (either_refused (end_in_enum specs))

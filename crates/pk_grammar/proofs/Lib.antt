@@ -18,6 +18,7 @@ pub mod CompleteReduced
 pub mod CompleteOperands
 pub mod CompleteExpressions
 pub mod CompleteEnumerations
+pub mod CompleteInitializers
 pub mod CompleteDeclarations
 pub mod CompleteStatements
 pub mod CompleteBodies

@@ -13,8 +13,8 @@ use Rattle.pk_ast.specs.declared.declarations.SpecifierWord.{SpecifierWord}
 use Rattle.pk_ast.specs.declared.declarations.SpecifierWord.TheVariants as words
 use Rattle.pk_ast.specs.declared.expressions.Identifier.{Identifier}
 use Rattle.pk_ast.specs.declared.units.Storage.{Storage}
-use Rattle.pk_ast.specs.Names.{word_name, word_names, specifier_names, expression_names, list_names, optional_names, initializer_names, declarator_names, all_declarator_names, enumerator_names, all_enumerator_names, enumeration_names, declaration_names, for_start_names, statement_names, item_names, body_names, optional_name, parameter_names, external_names, names_of}
-use Rattle.pk_ast.specs.Trees.{OneOrMore, ExpressionTree, name, call, index, constant, character, parenthesized, postfix, prefix, unary, cast, binary, conditional, assignment, comma, ExpressionTrees, no_expressions, expression_then, InitializerTree, single, braced, DeclaratorTree, EnumeratorTree, EnumerationTree, DeclarationTree, ForStartTree, declaration, expression, StatementTree, block, empty, expression_statement, label, case, default, if_then, if_else, switch, while, do_while, for_loop, goto, continue, break, return, ItemTrees, no_items, declaration_then, statement_then, BlockTree, ParameterTree, ExternalTree, function, objects, type_names}
+use Rattle.pk_ast.specs.Names.{word_name, word_names, specifier_names, expression_names, list_names, optional_names, initializer_item_names, all_initializer_item_names, initializer_names, dimensions_names, declarator_names, all_declarator_names, enumerator_names, all_enumerator_names, enumeration_names, declaration_names, for_start_names, statement_names, item_names, body_names, optional_name, parameter_names, external_names, names_of}
+use Rattle.pk_ast.specs.Trees.{OneOrMore, ExpressionTree, name, call, index, element, constant, character, parenthesized, postfix, prefix, unary, cast, binary, conditional, assignment, comma, ExpressionTrees, no_expressions, expression_then, InitializerItemTree, item_value, item_row, InitializerTree, single, braced, DimensionsTree, DeclaratorTree, EnumeratorTree, EnumerationTree, DeclarationTree, ForStartTree, declaration, expression, StatementTree, block, empty, expression_statement, label, case, default, if_then, if_else, switch, while, do_while, for_loop, goto, continue, break, return, ItemTrees, no_items, declaration_then, statement_then, BlockTree, ParameterTree, ExternalTree, function, objects, type_names}
 use Rattle.pk_grammar.specs.Languages.{Marked, Language, Nothing, At, Any, Identified, ◌⊙◌, Inside, Past, Optional, Where, identifier_of}
 use Rattle.pk_grammar.specs.Grammar as grammar
 use Rattle.pk_grammar.specs.Grammar.{punctuator, punctuator_at, keyword, keyword_at, specifier, specifier_list, specifiers, spelled, spelled_list, spelled_more, Expression, Items, statement, block_items, IsWord}
@@ -130,6 +130,12 @@ mutual
   spelled-names (index x at e) =
       both (x ∷ []) (expression_names e) (identified x)
       (then_none (expression_names e) (inside (expression_names e) (none_then (expression_names e) (sign_at mark.OpenBracket at) (spelled-names e))) (sign mark.CloseBracket))
+  spelled-names (element x at e column_at c) =
+      let xs : List Identifier = expression_names e in
+      let ys : List Identifier = expression_names c in
+      both (x ∷ []) (xs ++ ys) (identified x)
+      (both xs ys (inside xs (none_then xs (sign_at mark.OpenBracket at) (spelled-names e)))
+      (none_then ys (sign mark.CloseBracket) (then_none ys (inside ys (none_then ys (sign_at mark.OpenBracket column_at) (spelled-names c))) (sign mark.CloseBracket))))
   spelled-names (constant at t v) = at_place (kind.Constant t v) at (λ x. refl)
   spelled-names (character at v) = at_place (kind.Character v) at (λ x. refl)
   spelled-names (parenthesized at e) =
@@ -181,17 +187,36 @@ length-names (Some e) =
     let xs : List Identifier = expression_names e in
     then_none xs (inside xs (none_then xs (sign mark.OpenBracket) (expression-names _ e))) (sign mark.CloseBracket)
 
+dimensions-names : (d : Option DimensionsTree) → Has (grammar.dimensions d) (dimensions_names d)
+dimensions-names None = nothing
+dimensions-names (Some d) = both (expression_names d.length) (optional_names d.columns) (length-names (Some d.length)) (length-names d.columns)
+
+initializer_item-names : (i : InitializerItemTree) → Has (grammar.initializer_item i) (initializer_item_names i)
+initializer_item-names (item_value e) = expression-names _ e
+initializer_item-names (item_row at e es) =
+    let xs : List Identifier = expression_names e ++ list_names es in
+    none_then xs (sign_at mark.OpenBrace at) (then_none xs (items-names e es) (none_then [] (maybe (sign mark.Comma)) (sign mark.CloseBrace)))
+
+more_initializer_items-names : (items : List InitializerItemTree) → Has (grammar.more_initializer_items items) (all_initializer_item_names items)
+more_initializer_items-names [] = nothing
+more_initializer_items-names (i ∷ more) =
+    none_then (initializer_item_names i ++ all_initializer_item_names more) (sign mark.Comma)
+    (both (initializer_item_names i) (all_initializer_item_names more) (initializer_item-names i) (more_initializer_items-names more))
+
 initializer-names : (i : Option InitializerTree) → Has (grammar.initializer i) (initializer_names i)
 initializer-names None = nothing
 initializer-names (Some (single e)) = none_then (expression_names e) (sign mark.Assign) (expression-names _ e)
-initializer-names (Some (braced at e es)) =
-    let xs : List Identifier = expression_names e ++ list_names es in
-    none_then xs (sign mark.Assign) (none_then xs (sign_at mark.OpenBrace at) (then_none xs (items-names e es) (none_then [] (maybe (sign mark.Comma)) (sign mark.CloseBrace))))
+initializer-names (Some (braced at items)) =
+    let first : List Identifier = initializer_item_names items.first in
+    let more : List Identifier = all_initializer_item_names items.more in
+    let all : List Identifier = first ++ more in
+    none_then all (sign mark.Assign) (none_then all (sign_at mark.OpenBrace at)
+    (then_none all (both first more (initializer_item-names items.first) (more_initializer_items-names items.more)) (none_then [] (maybe (sign mark.Comma)) (sign mark.CloseBrace))))
 
 declarator-names : (d : DeclaratorTree) → Has (grammar.declarator d) (declarator_names d)
 declarator-names d =
-    both (d.name ∷ []) (optional_names d.length ++ initializer_names d.initializer) (identified d.name)
-    (both (optional_names d.length) (initializer_names d.initializer) (length-names d.length) (initializer-names d.initializer))
+    both (d.name ∷ []) (dimensions_names d.dimensions ++ initializer_names d.initializer) (identified d.name)
+    (both (dimensions_names d.dimensions) (initializer_names d.initializer) (dimensions-names d.dimensions) (initializer-names d.initializer))
 
 more_declarators-names : (ds : List DeclaratorTree) → Has (grammar.more_declarators ds) (all_declarator_names ds)
 more_declarators-names [] = nothing

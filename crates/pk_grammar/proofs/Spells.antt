@@ -1,24 +1,24 @@
 -- Each state stands for the tokens that led to it, and a text goes on from them.
-use Rattle.std.proofs.Common.{◌≡◌, ℕ, ◌+◌, inr, List, [], ◌∷◌, ◌++◌, Option, Some, None, refl, subst, append_assoc}
+use Rattle.std.proofs.Common.{◌≡◌, ℕ, ◌+◌, List, [], ◌∷◌, ◌++◌, Option, Some, None, refl, subst, append_assoc}
 use Rattle.pk_lex.specs.declared.token.Token.{Token}
 use Rattle.pk_lex.specs.declared.token.Kind.TheVariants as kind
 use Rattle.pk_ast.specs.declared.declarations.SpecifierWord.{SpecifierWord}
-use Rattle.pk_ast.specs.Trees.{return, no_expressions, ExternalTree, expression_then}
+use Rattle.pk_ast.specs.Trees.{return, ExternalTree}
 use Rattle.pk_grammar.specs.declared.signs.Fixed.TheVariants as fixed
 use Rattle.pk_grammar.specs.Languages.{Marked}
 use Rattle.pk_grammar.specs.Grammar.{statement, externals, text}
 use Rattle.pk_grammar.specs.Machine.Signs.{specifier_word}
-use Rattle.pk_grammar.specs.Machine.States.{as_first, as_second, as_third, as_result, as_value, as_item, as_whole, State, top, after_storage, after_typedef, type_specifiers, after_type_name, type_name_comma, at_enumerator, after_enumerator_name, after_braces, after_specifiers, after_name, after_length, after_assign, after_brace, after_item, after_initializer, after_comma, parameters_open, parameter_specifiers, parameter_name, parameter_comma, parameters_closed, block_item, after_static, at_statement, after_statement, test_open, do_open, for_open, for_first, for_second, for_third, default_colon, goto_name, returning, statement_end, operand, named, arguments, opened, cast_specifiers, complete}
-use Rattle.pk_grammar.specs.Machine.Steps.{Verdict, taken, refused, finished, naming_nesting, begin_for, step}
+use Rattle.pk_grammar.specs.Machine.States.{as_first, as_second, as_third, as_result, as_value, as_item, as_row_item, as_whole, State, top, after_storage, after_typedef, type_specifiers, after_type_name, type_name_comma, at_enumerator, after_enumerator_name, after_braces, after_specifiers, after_name, after_length, after_columns, after_assign, at_initializer_item, at_row_item, after_row, after_initializer, after_comma, parameters_open, parameter_specifiers, parameter_name, parameter_comma, parameters_closed, block_item, after_static, at_statement, after_statement, test_open, do_open, for_open, for_first, for_second, for_third, default_colon, goto_name, returning, statement_end, operand, named, indexed, arguments, opened, cast_specifiers, complete}
+use Rattle.pk_grammar.specs.Machine.Steps.{Verdict, taken, refused, finished, naming_nesting, initializing_nesting, begin_for, step}
 use Rattle.pk_grammar.proofs.SpellsSigns.{IsSpecifier, is_specifier}
 use Rattle.pk_grammar.proofs.SpellsWords.{push, push_at, push_last, none_more, gather, last_as, moved}
-use Rattle.pk_grammar.proofs.SpellsLists.{first_word, items_comma}
+use Rattle.pk_grammar.proofs.SpellsLists.{first_word}
 use Rattle.pk_grammar.proofs.SpellsStates.{Spells}
 use Rattle.pk_grammar.proofs.SpellsGood.{Good, fixed_good, wanted_good, two}
 use Rattle.pk_grammar.proofs.SpellsEnumerations.{at_next_enumerator_good, at_enumerator_name_good}
-use Rattle.pk_grammar.proofs.SpellsDeclarations.{at_after_braces_good, after_declarator_good, more_specifiers_good, at_after_name_good, at_after_length_good, braces_end}
+use Rattle.pk_grammar.proofs.SpellsDeclarations.{at_after_braces_good, after_declarator_good, more_specifiers_good, at_after_dimensions_good, at_after_name_good, at_after_length_good, at_next_item_good, at_next_row_item_good, after_item_good}
 use Rattle.pk_grammar.proofs.SpellsPurposes.{for_ends}
-use Rattle.pk_grammar.proofs.SpellsOperands.{at_operand_good, at_complete_good, at_named_good, at_arguments_good, at_opened_good, more_cast_good}
+use Rattle.pk_grammar.proofs.SpellsOperands.{at_operand_good, at_complete_good, at_named_good, at_indexed_good, at_arguments_good, at_opened_good, more_cast_good}
 use Rattle.pk_grammar.proofs.SpellsStatements.{begins_statement_good, at_items_good, begin_static_good, resume_good}
 use Rattle.pk_grammar.proofs.SpellsExternals.{begin_external_good, at_top_good, begin_typedef_good, more_typedef_good, at_after_type_name_good, next_type_name_good, begin_parameter_good, more_parameter_good, at_parameter_name_good, parameters_open_good, at_parameters_closed_good}
 use Rattle.pk_grammar.proofs.SpellsEnds.{Ends, at_end, goes, state_ends}
@@ -36,13 +36,13 @@ step_good (after_enumerator_name d id) t ms h = at_enumerator_name_good d id t m
 step_good (after_braces s ss e) t ms h = at_after_braces_good s ss e t ms h
 step_good (after_specifiers s ss) t ms h = more_specifiers_good s ss t ms h
 step_good (after_name d id) t ms h = at_after_name_good d id t ms h
-step_good (after_length d) t ms h = at_after_length_good d t ms h
-step_good (after_assign d) t ms h = fixed_good fixed.OpenBrace _ _ t ms (λ k. push ms t h (k, refl)) (at_operand_good (naming_nesting d) (as_whole (as_value d)) t ms refl h)
-step_good (after_brace d at) t ms h = at_operand_good (naming_nesting d) (as_whole (as_item d at no_expressions)) t ms refl (tt, none_more (naming_nesting d) h)
-step_good (after_item d at e es) t ms h =
-    fixed_good fixed.CloseBrace _ _ t ms (λ k. braces_end d at e es t ms k (last_as (λ ts c. inr c) h))
-    (at_operand_good (naming_nesting d) (as_whole (as_item d at (expression_then e es))) t ms refl
-    (h.first.second.fit, last_as (λ ts g. items_comma e es (naming_nesting d) ts g) (gather h)))
+step_good (after_length d id e) t ms h = at_after_length_good d id e t ms h
+step_good (after_columns d) t ms h = at_after_dimensions_good d t ms h
+step_good (after_assign d) t ms h =
+    fixed_good fixed.OpenBrace _ _ t ms (λ k. none_more (naming_nesting d) (push ms t h (k, refl))) (at_operand_good (naming_nesting d) (as_whole (as_value d)) t ms refl h)
+step_good (at_initializer_item d) t ms h = at_next_item_good d t ms h (at_operand_good (initializing_nesting d) (as_whole (as_item d)) t ms refl h)
+step_good (at_row_item d at es) t ms h = at_next_row_item_good d at es t ms h (at_operand_good (initializing_nesting d) (as_whole (as_row_item d at es)) t ms refl h)
+step_good (after_row d) t ms h = after_item_good d t ms h
 step_good (after_initializer d) t ms h = after_declarator_good d t ms h
 step_good (after_comma d) t ms h = wanted_good fixed.Name _ t ms (λ k. push ms t h (k, refl))
 step_good (parameters_open g) t ms h =
@@ -78,6 +78,7 @@ step_good (statement_end n s o) t ms h = wanted_good fixed.Semicolon _ t ms (λ 
     (h.0.1, moved (statement s) h.0.0 (push_last _ (λ ts g. g _ (record { token = t; is = refl; holds = k })) h.1)))
 step_good (operand n c) t ms h = at_operand_good n c t ms h.0 h.1
 step_good (named n id c) t ms h = at_named_good n id c t ms h.0 h.1
+step_good (indexed n id at e c) t ms h = at_indexed_good n id at e c t ms h.0.0 h.0.1 h.1
 step_good (arguments n id c) t ms h = at_arguments_good n id c t ms h.0 h.1
 step_good (opened n at c) t ms h = at_opened_good n at c t ms h.0 h.1
 step_good (cast_specifiers n at ss c) t ms h = more_cast_good n at ss c t ms h.0.0 h.0.1 h.1

@@ -1,5 +1,5 @@
 -- What a declaration's steps leave.
-use Rattle.std.proofs.Common.{◌≡◌, ℕ, ◌+◌, List, [], ◌∷◌, ◌++◌, Option, Some, None, refl}
+use Rattle.std.proofs.Common.{◌≡◌, ℕ, ◌+◌, inr, List, [], ◌∷◌, Option, Some, None, refl}
 use Rattle.pk_ctypes.specs.declared.places.Pos.{Pos}
 use Rattle.pk_lex.specs.declared.token.Token.{Token}
 use Rattle.pk_lex.specs.declared.token.Kind.TheVariants as kind
@@ -8,16 +8,16 @@ use Rattle.pk_ast.specs.declared.declarations.Specifier.{Specifier}
 use Rattle.pk_ast.specs.declared.declarations.SpecifierWord.{SpecifierWord}
 use Rattle.pk_ast.specs.declared.declarations.SpecifierWord.TheVariants as word
 use Rattle.pk_ast.specs.declared.expressions.Identifier.{Identifier}
-use Rattle.pk_ast.specs.Trees.{OneOrMore, ExpressionTree, InitializerTree, DeclaratorTree, EnumerationTree, DeclarationTree, ExpressionTrees, braced}
+use Rattle.pk_ast.specs.Trees.{OneOrMore, ExpressionTree, InitializerTree, DeclaratorTree, EnumerationTree, DeclarationTree, ExpressionTrees, no_expressions, expression_then, InitializerItemTree, item_row, braced}
 use Rattle.pk_grammar.specs.declared.signs.Fixed.TheVariants as fixed
 use Rattle.pk_grammar.specs.Languages.{Marked, Optional, Identified}
-use Rattle.pk_grammar.specs.Grammar.{Items, type_words, initializer, declarators, declared, punctuator}
-use Rattle.pk_grammar.specs.Machine.States.{function_block, inner_block, Site, in_a_block, in_a_for, outside, EnumerationSite, in_declaration, in_typedef, Declaring, Declared, Naming}
-use Rattle.pk_grammar.specs.Machine.Steps.{taken, specifier_at, enumeration_nesting, declared_at, whole_declaration, first_name, end_alone, alone, behind_braces, at_after_braces, more_specifiers, without_length, open_parameters, at_after_name, at_after_length, site_nesting, naming_nesting, with_initializer, end_declaration, next_declarator, after_declarator, next_word}
+use Rattle.pk_grammar.specs.Grammar.{Items, type_words, initializer, initializer_item, declarators, declared, punctuator, punctuator_at}
+use Rattle.pk_grammar.specs.Machine.States.{function_block, inner_block, Site, in_a_block, in_a_for, outside, EnumerationSite, in_declaration, in_typedef, Declaring, Declared, Naming, Initializing, Initialized, as_item, as_row_item, as_whole}
+use Rattle.pk_grammar.specs.Machine.Steps.{taken, specifier_at, enumeration_nesting, declared_at, whole_declaration, first_name, end_alone, alone, behind_braces, at_after_braces, more_specifiers, with_dimensions, without_dimensions, open_parameters, at_after_dimensions, at_after_name, at_after_length, site_nesting, naming_nesting, initializing_nesting, with_initializer, with_item, after_item, next_item, close_initializer, close_row, end_items, end_row, at_next_item, at_next_row_item, at_operand, end_declaration, next_declarator, after_declarator, next_word}
 use Rattle.pk_grammar.proofs.SpellsSigns.{IsNext, is_next}
-use Rattle.pk_grammar.proofs.SpellsWords.{and_none, drop_none, ◌▹◌, push, none_more, gather, together, last_as, before_as, moved}
-use Rattle.pk_grammar.proofs.SpellsLists.{one_more_word, whole_at, declarators_end, declarators_comma, items_declaration, externals_end}
-use Rattle.pk_grammar.proofs.SpellsStates.{open_words, to_enumeration, to_declaration, to_declarator, to_declarator_end, to_initializer, to_brace, bare_three}
+use Rattle.pk_grammar.proofs.SpellsWords.{and_none, drop_none, ◌▹◌, push, none_more, not_there, gather, spread, together, last_as, before_as, moved}
+use Rattle.pk_grammar.proofs.SpellsLists.{one_more_word, whole_at, declarators_end, declarators_comma, values_before_end, items_end, items_comma, items_before_end, items_declaration, externals_end}
+use Rattle.pk_grammar.proofs.SpellsStates.{open_words, to_enumeration, to_declaration, to_declarator, to_declarator_end, to_initializer, to_columns, to_next_item, to_items_end, to_row_item, bare_three}
 use Rattle.pk_grammar.proofs.CompleteDeclarations.{MayDeclare}
 use Rattle.pk_grammar.proofs.SpellsEnumerations.{open_braces_good, one_more_qualifier}
 use Rattle.pk_grammar.proofs.SpellsGood.{Good, wanted_good, fixed_good, two}
@@ -52,11 +52,54 @@ pub after_declarator_good : (d : Declared) (t : Token) (ms : List Marked) → to
 after_declarator_good d t ms g =
     fixed_good fixed.Comma _ _ t ms (λ k. next_declarator_good d t ms k g) (wanted_good fixed.Semicolon _ t ms (λ k. end_declaration_good d t ms k g))
 
--- a braced list's `}`
-pub braces_end : (d : Naming) (at : Pos) (e : ExpressionTree) (es : ExpressionTrees) (t : Token) (ms : List Marked) → t.kind ≡ kind.Punctuator mark.CloseBrace →
-    (to_brace d at ▹ Items e es (naming_nesting d) ▹ Optional (punctuator mark.Comma) (naming_nesting d)) ms →
-    to_declarator_end (with_initializer d (Some (braced at e es))) (ms ++ record { token = t; nesting = naming_nesting d } ∷ [])
-braces_end d at e es t ms k h = initialized d (Some (braced at e es)) _ (gather (gather (gather (gather (push ms t h k)))))
+-- the `}` of an initializer
+initializer_ends : (d : Initialized) (t : Token) (ms : List Marked) → t.kind ≡ kind.Punctuator mark.CloseBrace → (to_items_end d ▹ Optional (punctuator mark.Comma) (naming_nesting d.naming)) ms →
+    Good (close_initializer d) t ms
+initializer_ends d t ms k h = initialized d.naming (Some (braced d.brace d.items)) _ (gather (gather (gather (gather (push ms t h k)))))
+
+pub close_initializer_good : (d : Initialized) (t : Token) (ms : List Marked) → t.kind ≡ kind.Punctuator mark.CloseBrace → to_items_end d ms → Good (close_initializer d) t ms
+close_initializer_good d t ms k h = initializer_ends d t ms k (not_there (punctuator mark.Comma) (naming_nesting d.naming) h)
+
+pub next_item_good : (d : Initialized) (t : Token) (ms : List Marked) → t.kind ≡ kind.Punctuator mark.Comma → to_items_end d ms → Good (next_item d) t ms
+next_item_good d t ms k h = last_as (λ ts f. items_comma d.items _ ts f) (gather (push ms t h k))
+
+pub after_item_good : (d : Initialized) (t : Token) (ms : List Marked) → to_items_end d ms → Good (after_item d t) t ms
+after_item_good d t ms h = fixed_good fixed.Comma _ _ t ms (λ k. next_item_good d t ms k h) (wanted_good fixed.CloseBrace _ t ms (λ k. close_initializer_good d t ms k h))
+
+-- an item is one more
+pub one_item : (d : Initializing) (i : InitializerItemTree) (ms : List Marked) → (to_next_item d ▹ initializer_item i (initializing_nesting d)) ms → to_items_end (with_item d i) ms
+one_item d i ms h = last_as (λ ts g. items_end d.items i _ ts g) (gather h)
+
+-- the `}` of a row
+row_ends : (d : Initializing) (at : Pos) (e : ExpressionTree) (es : ExpressionTrees) (t : Token) (ms : List Marked) → t.kind ≡ kind.Punctuator mark.CloseBrace →
+    (to_next_item d ▹ punctuator_at mark.OpenBrace at (initializing_nesting d) ▹ Items e es (initializing_nesting d) ▹ Optional (punctuator mark.Comma) (initializing_nesting d)) ms → Good (close_row d at e es) t ms
+row_ends d at e es t ms k h = one_item d (item_row at e es) _ (gather (gather (gather (push ms t h k))))
+
+pub close_row_good : (d : Initializing) (at : Pos) (e : ExpressionTree) (es : ExpressionTrees) (t : Token) (ms : List Marked) → t.kind ≡ kind.Punctuator mark.CloseBrace →
+    (to_next_item d ▹ punctuator_at mark.OpenBrace at (initializing_nesting d) ▹ Items e es (initializing_nesting d)) ms → Good (close_row d at e es) t ms
+close_row_good d at e es t ms k h = row_ends d at e es t ms k (not_there (punctuator mark.Comma) (initializing_nesting d) h)
+
+-- the `}` behind a comma
+end_items_good : (d : Naming) (at : Pos) (items : List InitializerItemTree) (t : Token) (ms : List Marked) → t.kind ≡ kind.Punctuator mark.CloseBrace →
+    to_next_item (record { naming = d; brace = at; items = items }) ms → Good (end_items d at items) t ms
+end_items_good d at [] t ms k h = tt
+end_items_good d at (i ∷ items) t ms k h =
+    initializer_ends (record { naming = d; brace = at; items = record { first = i; more = items } }) t ms k
+    (last_as (λ ts c. inr c) (spread (last_as (λ ts g. items_before_end i items _ ts g) h)))
+
+end_row_good : (d : Initializing) (at : Pos) (es : ExpressionTrees) (t : Token) (ms : List Marked) → t.kind ≡ kind.Punctuator mark.CloseBrace → to_row_item d at es ms → Good (end_row d at es) t ms
+end_row_good d at no_expressions t ms k h = tt
+end_row_good d at (expression_then e es) t ms k h =
+    row_ends d at e es t ms k (last_as (λ ts c. inr c) (spread (last_as (λ ts g. values_before_end e es _ ts h.0 g) h.1)))
+
+pub at_next_item_good : (d : Initializing) (t : Token) (ms : List Marked) → to_next_item d ms → Good (at_operand (initializing_nesting d) (as_whole (as_item d)) t) t ms → Good (at_next_item d t) t ms
+at_next_item_good d t ms h g =
+    fixed_good fixed.OpenBrace _ _ t ms (λ k. (tt, none_more (initializing_nesting d) (push ms t h (k, refl))))
+    (fixed_good fixed.CloseBrace _ _ t ms (λ k. end_items_good d.naming d.brace d.items t ms k h) g)
+
+pub at_next_row_item_good : (d : Initializing) (at : Pos) (es : ExpressionTrees) (t : Token) (ms : List Marked) → to_row_item d at es ms →
+    Good (at_operand (initializing_nesting d) (as_whole (as_row_item d at es)) t) t ms → Good (at_next_row_item d at es t) t ms
+at_next_row_item_good d at es t ms h g = fixed_good fixed.CloseBrace _ _ t ms (λ k. end_row_good d at es t ms k h) g
 
 -- A declarator's steps
 
@@ -104,14 +147,18 @@ open_parameters_good (outside before s) ss None [] id t ms k h = push ms t (befo
 open_parameters_good (outside before s) ss None (d ∷ ds) id t ms k h = tt
 open_parameters_good (outside before s) ss (Some e) ds id t ms k h = tt
 
+pub at_after_dimensions_good : (d : Naming) (t : Token) (ms : List Marked) → to_initializer d ms → Good (at_after_dimensions d t) t ms
+at_after_dimensions_good d t ms h =
+    fixed_good fixed.Assign _ _ t ms (λ k. push ms t h k) (after_declarator_good _ t ms (initialized d None ms (none_more (naming_nesting d) h)))
+
 pub at_after_name_good : (d : Declaring) (id : Identifier) (t : Token) (ms : List Marked) → (to_declarator d ▹ Identified id (site_nesting d.site)) ms → Good (at_after_name d id t) t ms
 at_after_name_good d id t ms h =
     let n : ℕ = site_nesting d.site in
     fixed_good fixed.OpenParenthesis _ _ t ms (λ k. open_parameters_good d.site d.specifiers d.enumeration d.declarators id t ms k h)
     (fixed_good fixed.OpenBracket _ _ t ms (λ k. (refl, push ms t h k))
-    (fixed_good fixed.Assign _ _ t ms (λ k. push ms t (none_more n h) k)
-    (after_declarator_good _ t ms (initialized (without_length d id) None ms (none_more n (none_more n h))))))
+    (at_after_dimensions_good (without_dimensions d id) t ms (none_more n h)))
 
-pub at_after_length_good : (d : Naming) (t : Token) (ms : List Marked) → to_initializer d ms → Good (at_after_length d t) t ms
-at_after_length_good d t ms h =
-    fixed_good fixed.Assign _ _ t ms (λ k. push ms t h k) (after_declarator_good _ t ms (initialized d None ms (none_more (naming_nesting d) h)))
+pub at_after_length_good : (d : Declaring) (id : Identifier) (e : ExpressionTree) (t : Token) (ms : List Marked) → to_columns d id e ms → Good (at_after_length d id e t) t ms
+at_after_length_good d id e t ms h =
+    fixed_good fixed.OpenBracket _ _ t ms (λ k. (refl, push ms t h k))
+    (at_after_dimensions_good (with_dimensions d id (record { length = e; columns = None })) t ms (gather (none_more (site_nesting d.site) h)))

@@ -17,7 +17,7 @@ use Rattle.pk_grammar.specs.declared.signs.Operator.TheVariants as operator
 use Rattle.pk_grammar.specs.Languages.{identifier_of}
 use Rattle.pk_grammar.specs.Grammar.{any_expression, strength}
 use Rattle.pk_grammar.specs.Machine.Signs.{is_fixed, operator_of}
-use Rattle.pk_grammar.specs.Machine.States.{Head, OpenBlock, function_block, inner_block, Outer, in_block, in_label, in_case, in_default, in_if, in_else, in_switch, in_while, in_do, in_for, Site, in_a_block, in_a_for, outside, EnumerationSite, in_declaration, in_typedef, Declared, Purpose, as_statement, as_label, as_test, as_last_test, as_first, as_second, as_third, as_result, as_length, as_value, as_item, as_enumerator, Context, as_whole, in_parentheses, in_index, in_call, in_prefix, in_unary, in_cast, in_binary, in_choice, in_alternative, in_assignment, in_comma, State, top, after_storage, after_typedef, type_specifiers, after_type_name, type_name_comma, at_enumerator, after_enumerator_name, after_braces, after_specifiers, after_name, after_length, after_assign, after_brace, after_item, after_initializer, after_comma, parameters_open, parameter_specifiers, parameter_name, parameter_comma, parameters_closed, block_item, after_static, at_statement, after_statement, test_open, do_open, for_open, for_first, for_second, for_third, default_colon, goto_name, returning, statement_end, operand, named, arguments, opened, cast_specifiers, complete}
+use Rattle.pk_grammar.specs.Machine.States.{Head, OpenBlock, function_block, inner_block, Outer, in_block, in_label, in_case, in_default, in_if, in_else, in_switch, in_while, in_do, in_for, Site, in_a_block, in_a_for, outside, EnumerationSite, in_declaration, in_typedef, Declared, Initialized, Purpose, as_statement, as_label, as_test, as_last_test, as_first, as_second, as_third, as_result, as_length, as_columns, as_value, as_item, as_row_item, as_enumerator, Context, as_whole, in_parentheses, in_index, in_column, in_call, in_prefix, in_unary, in_cast, in_binary, in_choice, in_alternative, in_assignment, in_comma, State, top, after_storage, after_typedef, type_specifiers, after_type_name, type_name_comma, at_enumerator, after_enumerator_name, after_braces, after_specifiers, after_name, after_length, after_columns, after_assign, at_initializer_item, at_row_item, after_row, after_initializer, after_comma, parameters_open, parameter_specifiers, parameter_name, parameter_comma, parameters_closed, block_item, after_static, at_statement, after_statement, test_open, do_open, for_open, for_first, for_second, for_third, default_colon, goto_name, returning, statement_end, operand, named, indexed, arguments, opened, cast_specifiers, complete}
 use Rattle.pk_grammar.specs.Machine.Steps.{Verdict, taken, finished, Reduced, reduced, end_expression, end_purpose, go_on, resume, step, end_declaration, site_nesting, specifier_at, next_word, end_in_enum}
 use Rattle.pk_grammar.proofs.WordLemmas.{next_tag, tag_is_last, no_name}
 use Rattle.pk_grammar.proofs.CompleteOperands.{step_more_cast, step_cast_end}
@@ -98,6 +98,9 @@ ends_declaration d = go d d.site
 ends_initializer : (n : ℕ) (d : Declared) → Ends (taken n (after_initializer d))
 ends_initializer n d = goes semicolon (ends_declaration d)
 
+ends_row : (n : ℕ) (d : Initialized) → Ends (taken n (after_row d))
+ends_row n d = goes (sign mark.CloseBrace) (ends_initializer _ _)
+
 -- behind the braces of an enumeration
 ends_braces : (n : ℕ) (s : EnumerationSite) (specs : OneOrMore Specifier) (e : EnumerationTree) → Ends (taken n (after_braces s specs e))
 ends_braces n (in_declaration s) specs e = goes a_name (goes semicolon (ends_declaration _))
@@ -121,9 +124,11 @@ ends_purpose (as_second n at f o) e = record { token = semicolon; no_operator = 
 ends_purpose (as_third n at f second o) e = record { token = sign mark.CloseParenthesis; no_operator = refl; ends = ends_statement _ _ _ }
 ends_purpose (as_result n at o) e = record { token = semicolon; no_operator = refl; ends = ends_after _ _ o }
 ends_purpose (as_length d id) e = record { token = sign mark.CloseBracket; no_operator = refl; ends = goes semicolon (ends_declaration _) }
+ends_purpose (as_columns d id l) e = record { token = sign mark.CloseBracket; no_operator = refl; ends = goes semicolon (ends_declaration _) }
 ends_purpose (as_value d) e = record { token = semicolon; no_operator = refl; ends = ends_declaration _ }
 ends_purpose (as_enumerator d id) e = record { token = sign mark.CloseBrace; no_operator = refl; ends = ends_braces _ d.site _ _ }
-ends_purpose (as_item d at es) e = record { token = sign mark.CloseBrace; no_operator = refl; ends = ends_initializer _ _ }
+ends_purpose (as_item d) e = record { token = sign mark.CloseBrace; no_operator = refl; ends = ends_initializer _ _ }
+ends_purpose (as_row_item d at es) e = record { token = sign mark.CloseBrace; no_operator = refl; ends = ends_row _ _ }
 
 zero_le : (n : ℕ) → nat_le 0 n ≡ true
 zero_le n = search rules
@@ -139,7 +144,13 @@ ends_context : (c : Context) (n : ℕ) (e : ExpressionTree) → Ending (λ t. en
 unfolding reduced
 ends_context (as_whole p) n e = ends_purpose p e
 ends_context (in_parentheses m at c) n e = record { token = sign mark.CloseParenthesis; no_operator = refl; ends = ends_complete _ m _ c (ends_context c m _) }
-ends_context (in_index m id at c) n e = record { token = sign mark.CloseBracket; no_operator = refl; ends = ends_complete _ m _ c (ends_context c m _) }
+ends_context (in_index m id at c) n e = record {
+  token = sign mark.CloseBracket;
+  no_operator = refl;
+  ends = goes (sign mark.OpenBracket) (goes a_character (ends_complete _ _ _ (in_column m id at e _ c)
+      (record { token = sign mark.CloseBracket; no_operator = refl; ends = ends_complete _ m _ c (ends_context c m _) })));
+}
+ends_context (in_column m id at d column_at c) n e = record { token = sign mark.CloseBracket; no_operator = refl; ends = ends_complete _ m _ c (ends_context c m _) }
 ends_context (in_call m id es c) n e = record { token = sign mark.CloseParenthesis; no_operator = refl; ends = ends_complete _ m _ c (ends_context c m _) }
 ends_context (in_prefix m o at c) n e = ends_context c m (prefix o at e)
 ends_context (in_unary m o at c) n e = ends_context c m (unary o at e)
@@ -190,10 +201,12 @@ state_ends n (after_enumerator_name d id) = goes (sign mark.CloseBrace) (ends_br
 state_ends n (after_braces s specs e) = ends_braces n s specs e
 state_ends n (after_specifiers s specs) = ends_words (after_specifiers s) (site_nesting s) (step_more_specifiers s) (whole_specifiers s) n specs
 state_ends n (after_name d id) = goes semicolon (ends_declaration _)
-state_ends n (after_length d) = goes semicolon (ends_declaration _)
+state_ends n (after_length d id e) = goes semicolon (ends_declaration _)
+state_ends n (after_columns d) = goes semicolon (ends_declaration _)
 state_ends n (after_assign d) = goes a_character (ends_complete _ _ _ _ (ends_context _ _ _))
-state_ends n (after_brace d at) = goes a_character (ends_complete _ _ _ _ (ends_context _ _ _))
-state_ends n (after_item d at e es) = goes (sign mark.CloseBrace) (ends_initializer _ _)
+state_ends n (at_initializer_item d) = goes a_character (ends_complete _ _ _ _ (ends_context _ _ _))
+state_ends n (at_row_item d at es) = goes a_character (ends_complete _ _ _ _ (ends_context _ _ _))
+state_ends n (after_row d) = ends_row n d
 state_ends n (after_initializer d) = ends_initializer n d
 state_ends n (after_comma d) = goes a_name (goes semicolon (ends_declaration _))
 state_ends n (parameters_open h) = goes (sign mark.CloseParenthesis) (goes semicolon (the_end _))
@@ -217,6 +230,7 @@ state_ends n (returning m at o) = goes semicolon (ends_after _ _ o)
 state_ends n (statement_end m s o) = goes semicolon (ends_after _ _ o)
 state_ends n (operand m c) = ends_operand n m c
 state_ends n (named m id c) = goes (sign mark.OpenParenthesis) (goes (sign mark.CloseParenthesis) (ends_complete _ _ _ c (ends_context c _ _)))
+state_ends n (indexed m id at e c) = goes (sign mark.OpenBracket) (goes a_character (ends_complete _ _ _ (in_column m id at e _ c) (ends_context _ _ _)))
 state_ends n (arguments m id c) = goes (sign mark.CloseParenthesis) (ends_complete _ _ _ c (ends_context c _ _))
 state_ends n (opened m at c) = goes a_character (ends_complete _ _ _ _ (ends_context _ _ _))
 state_ends n (cast_specifiers m at specs c) = ends_words (λ specs. cast_specifiers m at specs c) (m + 1) (λ done t w. step_more_cast m at done c t w) (whole_cast m at c) n specs

@@ -7,15 +7,15 @@ use Rattle.pk_lex.specs.declared.token.Punctuator.TheVariants as mark
 use Rattle.pk_ast.specs.declared.declarations.SpecifierWord.{SpecifierWord}
 use Rattle.pk_ast.specs.declared.declarations.Specifier.{Specifier}
 use Rattle.pk_ast.specs.Lists.{one, with_last, ended}
-use Rattle.pk_ast.specs.Trees.{OneOrMore, ExpressionTree, ExpressionTrees, no_expressions, expression_then, DeclaratorTree, EnumeratorTree, EnumerationTree, DeclarationTree, StatementTree, ItemTrees, no_items, declaration_then, statement_then, ParameterTree, ExternalTree}
+use Rattle.pk_ast.specs.Trees.{OneOrMore, ExpressionTree, ExpressionTrees, no_expressions, expression_then, InitializerItemTree, DeclaratorTree, EnumeratorTree, EnumerationTree, DeclarationTree, StatementTree, ItemTrees, no_items, declaration_then, statement_then, ParameterTree, ExternalTree}
 use Rattle.pk_ast.specs.declared.expressions.Identifier.{Identifier}
 use Rattle.pk_grammar.specs.Languages.{Marked, Language, Identified, ◌⊙◌, Where}
-use Rattle.pk_grammar.specs.Grammar.{punctuator, assignment_expression, Fits, AllFit, specifier, specifier_list, words, specifiers, Items, spelled, spelled_list, spelled_more, declarator, more_declarators, declarators, enumerator, more_enumerators, enumerators, HasName, declared, optional_static, statement, block_items, parameter, IsVoidAlone, more_parameters, parameters, more_names, names, external, externals}
+use Rattle.pk_grammar.specs.Grammar.{punctuator, assignment_expression, Fits, AllFit, specifier, specifier_list, words, specifiers, Items, spelled, spelled_list, spelled_more, initializer_item, more_initializer_items, initializer_items, declarator, more_declarators, declarators, enumerator, more_enumerators, enumerators, HasName, declared, optional_static, statement, block_items, parameter, IsVoidAlone, more_parameters, parameters, more_names, names, external, externals}
 use Rattle.pk_grammar.specs.Machine.Steps.{specifier_at, may_follow, next_word, end_in_enum, first_item, more_items, one_more, one_more_statement, one_more_declaration}
 use Rattle.pk_grammar.proofs.WordLemmas.{one_shaped, more_shaped, go_together, no_enum}
 use Rattle.pk_grammar.proofs.SpellsSigns.{IsSpecifier, IsNext}
 use Rattle.pk_grammar.proofs.SpellsWords.{Words, ◌▹◌, push, gather, last_as, assoc, back_assoc, then_as, alone, and_none, drop_last}
-use Rattle.pk_grammar.proofs.SpellsStates.{open_words, expressions_before, declarators_before, enumerators_before, parameters_before}
+use Rattle.pk_grammar.proofs.SpellsStates.{open_words, expressions_before, items_before, declarators_before, enumerators_before, parameters_before}
 
 -- Expressions
 
@@ -38,8 +38,21 @@ list_comma : (es : ExpressionTrees) (e : ExpressionTree) (n : ℕ) (ts : List Ma
 unfolding spelled
 list_comma es e n ts h = then_as (λ us g. more_comma es n us g) (assoc h)
 
-pub items_comma : (e : ExpressionTree) (es : ExpressionTrees) (n : ℕ) (ts : List Marked) → (Items e es ⊙ punctuator mark.Comma) n ts → expressions_before (expression_then e es) n ts
-items_comma e es n ts h = list_comma es e n ts (record { front = h.front; back = h.back; cut = h.cut; first = h.first.is; second = h.second })
+-- expressions of which a comma follows the last
+more_expressions_before : (es : ExpressionTrees) (n : ℕ) (ts : List Marked) → (punctuator mark.Comma ⊙ expressions_before es) n ts → (spelled_more es ⊙ punctuator mark.Comma) n ts
+unfolding spelled
+more_expressions_before no_expressions n ts h = record { front = []; back = ts; cut = refl; first = refl; second = drop_last h }
+more_expressions_before (expression_then e es) n ts h = back_assoc (then_as (λ us g. back_assoc (then_as (λ vs f. more_expressions_before es n vs f) g)) h)
+
+list_before_end : (e : ExpressionTree) (es : ExpressionTrees) (n : ℕ) (ts : List Marked) → expressions_before (expression_then e es) n ts → (spelled_list (expression_then e es) ⊙ punctuator mark.Comma) n ts
+unfolding spelled
+list_before_end e es n ts h = back_assoc (then_as (λ us g. more_expressions_before es n us g) h)
+
+pub values_before_end : (e : ExpressionTree) (es : ExpressionTrees) (n : ℕ) (ts : List Marked) → AllFit (expression_then e es) → expressions_before (expression_then e es) n ts →
+    (Items e es ⊙ punctuator mark.Comma) n ts
+values_before_end e es n ts f h =
+    let g = list_before_end e es n ts h in
+    record { front = g.front; back = g.back; cut = g.cut; first = record { fit = f; is = g.first }; second = g.second }
 
 pub all_fit : (es : ExpressionTrees) (e : ExpressionTree) → AllFit es → Fits assignment_expression e → AllFit (one_more es e)
 all_fit no_expressions e a f = (f, tt)
@@ -129,6 +142,33 @@ enumerators_before_end x xs n ts h = back_assoc (then_as (λ us g. more_before x
 
 pub qualifiers_end : (qs : List Specifier) (q : Specifier) (n : ℕ) (ts : List Marked) → (specifier_list qs ⊙ specifier q) n ts → specifier_list (qs ++ q ∷ []) n ts
 qualifiers_end qs q n ts h = specifiers_end qs q n ts h
+
+-- Initializers
+
+more_items_end : (items : List InitializerItemTree) (i : InitializerItemTree) (n : ℕ) (ts : List Marked) →
+    ((punctuator mark.Comma ⊙ items_before items) ⊙ initializer_item i) n ts → more_initializer_items (items ++ i ∷ []) n ts
+more_items_end [] i n ts h = then_as (λ us g. and_none n us (alone g)) (assoc h)
+more_items_end (j ∷ items) i n ts h = then_as (λ us g. then_as (λ vs f. more_items_end items i n vs f) (assoc g)) (assoc h)
+
+pub items_end : (items : List InitializerItemTree) (i : InitializerItemTree) (n : ℕ) (ts : List Marked) → (items_before items ⊙ initializer_item i) n ts → initializer_items (ended items i) n ts
+items_end [] i n ts h = and_none n ts (alone h)
+items_end (j ∷ items) i n ts h = then_as (λ us g. more_items_end items i n us g) (assoc h)
+
+more_items_comma : (items : List InitializerItemTree) (n : ℕ) (ts : List Marked) → (more_initializer_items items ⊙ punctuator mark.Comma) n ts → (punctuator mark.Comma ⊙ items_before items) n ts
+more_items_comma [] n ts h = and_none n ts (alone h)
+more_items_comma (i ∷ items) n ts h = then_as (λ us g. then_as (λ vs f. more_items_comma items n vs f) (assoc g)) (assoc h)
+
+pub items_comma : (items : OneOrMore InitializerItemTree) (n : ℕ) (ts : List Marked) → (initializer_items items ⊙ punctuator mark.Comma) n ts → items_before (items.first ∷ items.more) n ts
+items_comma items n ts h = then_as (λ us g. more_items_comma items.more n us g) (assoc h)
+
+-- items of which a comma follows the last
+more_items_before : (items : List InitializerItemTree) (n : ℕ) (ts : List Marked) → (punctuator mark.Comma ⊙ items_before items) n ts → (more_initializer_items items ⊙ punctuator mark.Comma) n ts
+more_items_before [] n ts h = record { front = []; back = ts; cut = refl; first = refl; second = drop_last h }
+more_items_before (i ∷ items) n ts h = back_assoc (then_as (λ us g. back_assoc (then_as (λ vs f. more_items_before items n vs f) g)) h)
+
+pub items_before_end : (i : InitializerItemTree) (items : List InitializerItemTree) (n : ℕ) (ts : List Marked) → items_before (i ∷ items) n ts →
+    (initializer_items (record { first = i; more = items }) ⊙ punctuator mark.Comma) n ts
+items_before_end i items n ts h = back_assoc (then_as (λ us g. more_items_before items n us g) h)
 
 -- Statements
 

@@ -11,19 +11,19 @@ use Rattle.pk_ast.specs.declared.expressions.Identifier.{Identifier}
 use Rattle.pk_ast.specs.declared.operators.BinaryOperator.{BinaryOperator}
 use Rattle.pk_ast.specs.declared.operators.BinaryOperator.TheVariants as op
 use Rattle.pk_ast.specs.declared.operators.AssignmentOperator.{AssignmentOperator}
-use Rattle.pk_ast.specs.Trees.{OneOrMore, ExpressionTree, name, call, index, constant, character, parenthesized, postfix, prefix, unary, cast, binary, conditional, assignment, comma, no_expressions}
+use Rattle.pk_ast.specs.Trees.{OneOrMore, ExpressionTree, name, call, index, element, constant, character, parenthesized, postfix, prefix, unary, cast, binary, conditional, assignment, comma, no_expressions}
 use Rattle.pk_grammar.specs.declared.signs.Fixed.TheVariants as fixed
 use Rattle.pk_grammar.specs.declared.signs.OperandStart.{OperandStart}
 use Rattle.pk_grammar.specs.declared.signs.OperandStart.TheVariants as start
 use Rattle.pk_grammar.specs.declared.signs.Operator.{Operator}
 use Rattle.pk_grammar.specs.declared.signs.Operator.TheVariants as operator
-use Rattle.pk_grammar.specs.Languages.{Marked, Identified}
+use Rattle.pk_grammar.specs.Languages.{Marked, Identified, ◌⊙◌, Inside}
 use Rattle.pk_grammar.specs.Grammar.{any_expression, assignment_expression, conditional_expression, strength, weakest_operator, cast_expression, unary_expression, postfix_expression, Fits, spelled, punctuator, punctuator_at}
 use Rattle.pk_grammar.specs.Machine.Signs.{operand_start, operator_of, specifier_word}
-use Rattle.pk_grammar.specs.Machine.States.{Purpose, as_statement, as_label, as_test, as_last_test, as_first, as_second, as_third, as_result, as_length, as_value, as_item, as_enumerator, Context, as_whole, in_parentheses, in_index, in_call, in_prefix, in_unary, in_cast, in_binary, in_choice, in_alternative, in_assignment, in_comma}
-use Rattle.pk_grammar.specs.Machine.Steps.{refused, Reduced, reduced, purpose_level, operand_level, begin_operand, at_operand, end_expression, comma_after, join_comma, join_binary, join_question, is_unary, join_assignment, go_on, at_complete, at_named, at_arguments, open_cast, at_opened, more_cast, next_word, end_in_enum}
+use Rattle.pk_grammar.specs.Machine.States.{Purpose, as_statement, as_label, as_test, as_last_test, as_first, as_second, as_third, as_result, as_length, as_columns, as_value, as_item, as_row_item, as_enumerator, Context, as_whole, in_parentheses, in_index, in_column, in_call, in_prefix, in_unary, in_cast, in_binary, in_choice, in_alternative, in_assignment, in_comma}
+use Rattle.pk_grammar.specs.Machine.Steps.{refused, Reduced, reduced, purpose_level, operand_level, begin_operand, at_operand, end_expression, comma_after, join_comma, join_binary, join_question, is_unary, join_assignment, go_on, at_complete, at_named, at_indexed, at_arguments, open_cast, at_opened, more_cast, next_word, end_in_enum}
 use Rattle.pk_grammar.proofs.SpellsSigns.{IsOperand, is_operand, IsOperator, is_operator, IsSpecifier, is_specifier, IsNext, is_next}
-use Rattle.pk_grammar.proofs.SpellsWords.{◌▹◌, push, none_more, gather, last_as, moved}
+use Rattle.pk_grammar.proofs.SpellsWords.{◌▹◌, push, none_more, gather, last_as, moved, assoc, then_as}
 use Rattle.pk_grammar.proofs.SpellsLists.{expressions_end, expressions_comma, all_fit, one_more_word, first_word, whole_words}
 use Rattle.pk_grammar.proofs.SpellsStates.{bare, open_words, to_operand, operand_nesting}
 use Rattle.pk_grammar.proofs.SpellsGood.{Good, if_good, fixed_good, wanted_good, le_true, le_false}
@@ -81,14 +81,17 @@ purpose_most (as_second n at f o) = omega arith
 purpose_most (as_third n at f second o) = omega arith
 purpose_most (as_result n at o) = omega arith
 purpose_most (as_length d id) = omega arith
+purpose_most (as_columns d id e) = omega arith
 purpose_most (as_value d) = omega arith
-purpose_most (as_item d at es) = omega arith
+purpose_most (as_item d) = omega arith
+purpose_most (as_row_item d at es) = omega arith
 purpose_most (as_enumerator d id) = omega arith
 
 operand_most : (c : Context) → operand_level c ≤ 14
 operand_most (as_whole p) = let h = purpose_most p in omega arith
 operand_most (in_parentheses n at c) = omega arith
 operand_most (in_index n id at c) = omega arith
+operand_most (in_column n id at e column_at c) = omega arith
 operand_most (in_call n id es c) = omega arith
 operand_most (in_prefix n o at c) = omega arith
 operand_most (in_unary n o at c) = omega arith
@@ -104,6 +107,7 @@ fits_weaker : (e : ExpressionTree) (l m : ℕ) → l ≤ m → Fits m e → Fits
 fits_weaker (name id) l m h f = f
 fits_weaker (call id es) l m h f = f
 fits_weaker (index id at e) l m h f = f
+fits_weaker (element id at e column_at c) l m h f = f
 fits_weaker (constant at t v) l m h f = f
 fits_weaker (character at v) l m h f = f
 fits_weaker (parenthesized at e) l m h f = f
@@ -151,6 +155,7 @@ unfolding reduced spelled
 reduced_stands level (as_whole p) n e ms le s = s
 reduced_stands level (in_parentheses m at c) n e ms le s = s
 reduced_stands level (in_index m id at c) n e ms le s = s
+reduced_stands level (in_column m id at d column_at c) n e ms le s = s
 reduced_stands level (in_call m id es c) n e ms le s = s
 reduced_stands level (in_prefix m o at c) n e ms le s = reduced_stands level c m (prefix o at e) ms le (record {
   nesting = s.is.first.0;
@@ -214,6 +219,7 @@ unfolding reduced
 reduced_level level m (as_whole p) n e low joins casts = let h = purpose_most p in omega arith
 reduced_level level m (in_parentheses k at c) n e low joins casts = omega arith
 reduced_level level m (in_index k id at c) n e low joins casts = omega arith
+reduced_level level m (in_column k id at d column_at c) n e low joins casts = omega arith
 reduced_level level m (in_call k id es c) n e low joins casts = omega arith
 reduced_level level m (in_prefix k o at c) n e low joins casts = reduced_level level m c k (prefix o at e) low joins casts
 reduced_level level m (in_unary k o at c) n e low joins casts = reduced_level level m c k (unary o at e) low joins casts
@@ -231,6 +237,12 @@ reduced_level level m (in_comma k at a c) n e low joins casts = if_level (nat_le
 
 -- Where an expression ends
 
+-- an index, and that of a column behind it
+element_ends : (id : Identifier) (at : Pos) (e : ExpressionTree) (column_at : Pos) (d : ExpressionTree) (n : ℕ) (ts : List Marked) →
+    (spelled (index id at e) ⊙ (Inside (punctuator_at mark.OpenBracket column_at ⊙ spelled d) ⊙ punctuator mark.CloseBracket)) n ts → spelled (element id at e column_at d) n ts
+unfolding spelled
+element_ends id at e column_at d n ts h = then_as (λ us g. assoc g) (assoc h)
+
 end_expression_good : (c : Context) (n : ℕ) (e : ExpressionTree) (t : Token) (ms : List Marked) → Stands any_expression (here n e c) ms → Good (end_expression e c t) t ms
 unfolding spelled
 end_expression_good (as_whole p) n e t ms s = end_purpose_good p n e t ms s.nesting s.fits s.there s.is
@@ -238,6 +250,10 @@ end_expression_good (in_parentheses m at c) n e t ms s = wanted_good fixed.Close
     ((s.is.first.0, s.fits), gather (push ms t (gather (bare (moved (spelled e) s.nesting s.is))) k)))
 end_expression_good (in_index m id at c) n e t ms s = wanted_good fixed.CloseBracket _ t ms (λ k.
     ((s.is.first.0, s.fits), gather (gather (push ms t (gather (bare (moved (spelled e) s.nesting s.is))) k))))
+end_expression_good (in_column m id at d column_at c) n e t ms s = wanted_good fixed.CloseBracket _ t ms (λ k. (
+  (s.is.first.0.0, (s.is.first.0.1, s.fits)),
+  last_as (λ ts g. element_ends id at d column_at e m ts g) (gather (gather (push ms t (gather (bare (moved (spelled e) s.nesting s.is))) k))),
+))
 end_expression_good (in_call m id es c) n e t ms s = wanted_good fixed.CloseParenthesis _ t ms (λ k. (
   (s.is.first.0.0, all_fit es e s.is.first.0.1 s.there),
   gather (gather (push ms t (gather (last_as (λ ts g. expressions_end es e _ ts g) (gather (bare (moved (spelled e) s.nesting s.is))))) k)),
@@ -261,6 +277,7 @@ comma_after_good : (c : Context) (n : ℕ) (e : ExpressionTree) (t : Token) (ms 
 comma_after_good (as_whole p) n e t ms k s = comma_purpose_good p n e t ms k s.nesting s.fits s.there s.is
 comma_after_good (in_parentheses m at c) n e t ms k s = join_comma_good (in_parentheses m at c) n e t ms k (omega arith) s
 comma_after_good (in_index m id at c) n e t ms k s = join_comma_good (in_index m id at c) n e t ms k (omega arith) s
+comma_after_good (in_column m id at d column_at c) n e t ms k s = join_comma_good (in_column m id at d column_at c) n e t ms k (omega arith) s
 comma_after_good (in_call m id es c) n e t ms k s = (
   refl,
   (
@@ -292,6 +309,7 @@ unary_fits : (e : ExpressionTree) → is_unary e ≡ true → Fits cast_expressi
 unary_fits (name id) b f = f
 unary_fits (call id es) b f = f
 unary_fits (index id at e) b f = f
+unary_fits (element id at e column_at c) b f = f
 unary_fits (constant at t v) b f = f
 unary_fits (character at v) b f = f
 unary_fits (parenthesized at e) b f = f
@@ -353,6 +371,11 @@ at_named_good n id c t ms en h =
     let g : Good (at_complete n (name id) c t) t ms = at_complete_good n (name id) c t ms en tt h in
     fixed_good fixed.OpenParenthesis _ _ t ms (λ k. (en, push ms t h k))
     (fixed_good fixed.OpenBracket _ _ t ms (λ k. (refl, (en, push ms t h (k, refl)))) g)
+
+pub at_indexed_good : (n : ℕ) (id : Identifier) (at : Pos) (e : ExpressionTree) (c : Context) (t : Token) (ms : List Marked) → n ≡ operand_nesting c → Fits any_expression e →
+    (to_operand c ▹ spelled (index id at e) n) ms → Good (at_indexed n id at e c t) t ms
+at_indexed_good n id at e c t ms en f h =
+    fixed_good fixed.OpenBracket _ _ t ms (λ k. (refl, ((en, f), push ms t h (k, refl)))) (at_complete_good n (index id at e) c t ms en f h)
 
 pub at_arguments_good : (n : ℕ) (id : Identifier) (c : Context) (t : Token) (ms : List Marked) → n ≡ operand_nesting c →
     (to_operand c ▹ Identified id n ▹ punctuator mark.OpenParenthesis (n + 1)) ms → Good (at_arguments n id c t) t ms

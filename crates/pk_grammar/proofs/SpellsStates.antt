@@ -5,11 +5,12 @@ use Rattle.pk_lex.specs.declared.token.Keyword.{Keyword}
 use Rattle.pk_lex.specs.declared.token.Keyword.TheVariants as key
 use Rattle.pk_lex.specs.declared.token.Punctuator.TheVariants as mark
 use Rattle.pk_ast.specs.declared.declarations.Specifier.{Specifier}
-use Rattle.pk_ast.specs.Trees.{OneOrMore, ExpressionTree, ExpressionTrees, no_expressions, expression_then, DeclaratorTree, EnumeratorTree, EnumerationTree, StatementTree, ForStartTree, ParameterTree, ExternalTree}
+use Rattle.pk_ast.specs.declared.expressions.Identifier.{Identifier}
+use Rattle.pk_ast.specs.Trees.{OneOrMore, ExpressionTree, ExpressionTrees, no_expressions, expression_then, InitializerItemTree, index, DeclaratorTree, EnumeratorTree, EnumerationTree, StatementTree, ForStartTree, ParameterTree, ExternalTree}
 use Rattle.pk_grammar.specs.Languages.{Marked, Language, Nothing, Identified, ◌⊙◌, Where}
-use Rattle.pk_grammar.specs.Grammar.{binary_sign, unary_sign, step_sign, assignment_sign, punctuator_at, punctuator, keyword_at, keyword, any_expression, assignment_expression, conditional_expression, strength, weakest_operator, cast_expression, unary_expression, postfix_expression, Fits, AllFit, operators_in, commas_in, AreBeforeBraces, all_of, words, specifiers, spelled, Items, optional, enumerator, enumerators, type_words, array_length, declarator, declarators, OpenEnd, test, optional_static, for_start, statement, block_items, stored, parameter, IsVoidAlone, parameters, names, externals}
-use Rattle.pk_grammar.specs.Machine.States.{Head, OpenBlock, function_block, inner_block, Outer, in_block, in_label, in_case, in_default, in_if, in_else, in_switch, in_while, in_do, in_for, Site, in_a_block, in_a_for, outside, Declaring, Declared, EnumerationSite, in_declaration, in_typedef, Enumerating, Enumerated, Naming, Purpose, as_statement, as_label, as_test, as_last_test, as_first, as_second, as_third, as_result, as_length, as_value, as_item, as_enumerator, Context, as_whole, in_parentheses, in_index, in_call, in_prefix, in_unary, in_cast, in_binary, in_choice, in_alternative, in_assignment, in_comma, State, top, after_storage, after_typedef, type_specifiers, after_type_name, type_name_comma, at_enumerator, after_enumerator_name, after_braces, after_specifiers, after_name, after_length, after_assign, after_brace, after_item, after_initializer, after_comma, parameters_open, parameter_specifiers, parameter_name, parameter_comma, parameters_closed, block_item, after_static, at_statement, after_statement, test_open, do_open, for_open, for_first, for_second, for_third, default_colon, goto_name, returning, statement_end, operand, named, arguments, opened, cast_specifiers, complete}
-use Rattle.pk_grammar.specs.Machine.Steps.{block_nesting, site_nesting, naming_nesting, enumeration_nesting, enumerating_nesting, operand_level}
+use Rattle.pk_grammar.specs.Grammar.{binary_sign, unary_sign, step_sign, assignment_sign, punctuator_at, punctuator, keyword_at, keyword, any_expression, assignment_expression, conditional_expression, strength, weakest_operator, cast_expression, unary_expression, postfix_expression, Fits, AllFit, operators_in, commas_in, AreBeforeBraces, all_of, words, specifiers, spelled, optional, enumerator, enumerators, type_words, array_length, dimensions, initializer_item, initializer_items, declarator, declarators, OpenEnd, test, optional_static, for_start, statement, block_items, stored, parameter, IsVoidAlone, parameters, names, externals}
+use Rattle.pk_grammar.specs.Machine.States.{Head, OpenBlock, function_block, inner_block, Outer, in_block, in_label, in_case, in_default, in_if, in_else, in_switch, in_while, in_do, in_for, Site, in_a_block, in_a_for, outside, Declaring, Declared, EnumerationSite, in_declaration, in_typedef, Enumerating, Enumerated, Naming, Initializing, Initialized, Purpose, as_statement, as_label, as_test, as_last_test, as_first, as_second, as_third, as_result, as_length, as_columns, as_value, as_item, as_row_item, as_enumerator, Context, as_whole, in_parentheses, in_index, in_column, in_call, in_prefix, in_unary, in_cast, in_binary, in_choice, in_alternative, in_assignment, in_comma, State, top, after_storage, after_typedef, type_specifiers, after_type_name, type_name_comma, at_enumerator, after_enumerator_name, after_braces, after_specifiers, after_name, after_length, after_columns, after_assign, at_initializer_item, at_row_item, after_row, after_initializer, after_comma, parameters_open, parameter_specifiers, parameter_name, parameter_comma, parameters_closed, block_item, after_static, at_statement, after_statement, test_open, do_open, for_open, for_first, for_second, for_third, default_colon, goto_name, returning, statement_end, operand, named, indexed, arguments, opened, cast_specifiers, complete}
+use Rattle.pk_grammar.specs.Machine.Steps.{block_nesting, site_nesting, naming_nesting, initializing_nesting, enumeration_nesting, enumerating_nesting, operand_level}
 use Rattle.pk_grammar.proofs.WordLemmas.{AreShaped}
 use Rattle.pk_grammar.proofs.SpellsSigns.{testing_keyword}
 use Rattle.pk_grammar.proofs.SpellsWords.{Words, ◌▹◌, before_as}
@@ -40,6 +41,10 @@ expressions_before (expression_then e es) = spelled e ⊙ punctuator mark.Comma 
 abbrev pub declarators_before : List DeclaratorTree → Language
 declarators_before [] = Nothing
 declarators_before (d ∷ ds) = declarator d ⊙ punctuator mark.Comma ⊙ declarators_before ds
+
+abbrev pub items_before : List InitializerItemTree → Language
+items_before [] = Nothing
+items_before (i ∷ more) = initializer_item i ⊙ punctuator mark.Comma ⊙ items_before more
 
 abbrev pub enumerators_before : List EnumeratorTree → Language
 enumerators_before [] = Nothing
@@ -156,13 +161,30 @@ to_enumerator_end d = to_braces d.site d.specifiers ▹ punctuator mark.OpenBrac
 
 -- up to an initializer
 abbrev pub to_initializer : Naming → Words
-to_initializer d = to_declarator d.declaring ▹ Identified d.name (naming_nesting d) ▹ array_length d.length (naming_nesting d)
+to_initializer d = to_declarator d.declaring ▹ Identified d.name (naming_nesting d) ▹ dimensions d.dimensions (naming_nesting d)
 
 abbrev pub to_value : Naming → Words
 to_value d = to_initializer d ▹ punctuator mark.Assign (naming_nesting d)
 
 abbrev pub to_brace : Naming → Pos → Words
 to_brace d at = to_value d ▹ punctuator_at mark.OpenBrace at (naming_nesting d)
+
+-- up to the next item of an initializer's braces
+abbrev pub to_next_item : Initializing → Words
+to_next_item d = to_brace d.naming d.brace ▹ items_before d.items (initializing_nesting d)
+
+-- up to what follows its last item
+abbrev pub to_items_end : Initialized → Words
+to_items_end d = to_brace d.naming d.brace ▹ initializer_items d.items (naming_nesting d.naming)
+
+-- up to the next value of a row
+abbrev pub to_row_item : Initializing → Pos → ExpressionTrees → Words
+to_row_item d at es =
+    When (AllFit es) (to_next_item d ▹ punctuator_at mark.OpenBrace at (initializing_nesting d) ▹ expressions_before es (initializing_nesting d))
+
+-- up to the columns of an array
+abbrev pub to_columns : Declaring → Identifier → ExpressionTree → Words
+to_columns d id e = to_declarator d ▹ Identified id (site_nesting d.site) ▹ array_length (Some e) (site_nesting d.site)
 
 -- up to an expression that isn't part of another one, and its nesting
 abbrev pub to_expression : Purpose → Words
@@ -175,9 +197,11 @@ to_expression (as_second n at f o) = to_second n at f o
 to_expression (as_third n at f second o) = to_third n at f second o
 to_expression (as_result n at o) = to_test key.Return n at o
 to_expression (as_length d id) = to_declarator d ▹ Identified id (site_nesting d.site) ▹ punctuator mark.OpenBracket (site_nesting d.site + 1)
+to_expression (as_columns d id e) = to_columns d id e ▹ punctuator mark.OpenBracket (site_nesting d.site + 1)
 to_expression (as_value d) = to_value d
 to_expression (as_enumerator d id) = to_enumerator d ▹ Identified id (enumerating_nesting d) ▹ punctuator mark.Assign (enumerating_nesting d)
-to_expression (as_item d at es) = When (AllFit es) (to_brace d at ▹ expressions_before es (naming_nesting d))
+to_expression (as_item d) = to_next_item d
+to_expression (as_row_item d at es) = to_row_item d at es
 
 abbrev pub expression_nesting : Purpose → ℕ
 expression_nesting (as_statement n o) = n + 1
@@ -189,8 +213,10 @@ expression_nesting (as_second n at f o) = n + 1 + 1
 expression_nesting (as_third n at f second o) = n + 1 + 1
 expression_nesting (as_result n at o) = n + 1
 expression_nesting (as_length d id) = site_nesting d.site + 1
+expression_nesting (as_columns d id e) = site_nesting d.site + 1
 expression_nesting (as_value d) = naming_nesting d
-expression_nesting (as_item d at es) = naming_nesting d
+expression_nesting (as_item d) = initializing_nesting d
+expression_nesting (as_row_item d at es) = initializing_nesting d
 expression_nesting (as_enumerator d id) = enumerating_nesting d
 
 -- the nesting of an operand that is part of this
@@ -198,6 +224,7 @@ abbrev pub operand_nesting : Context → ℕ
 operand_nesting (as_whole p) = expression_nesting p
 operand_nesting (in_parentheses n at c) = n + 1
 operand_nesting (in_index n id at c) = n + 1
+operand_nesting (in_column n id at e column_at c) = n + 1
 operand_nesting (in_call n id es c) = n + 1
 operand_nesting (in_prefix n o at c) = n + 1
 operand_nesting (in_unary n o at c) = n + 1
@@ -213,6 +240,8 @@ abbrev pub to_operand : Context → Words
 to_operand (as_whole p) = to_expression p
 to_operand (in_parentheses n at c) = When (n ≡ operand_nesting c) (to_operand c ▹ punctuator_at mark.OpenParenthesis at (n + 1))
 to_operand (in_index n id at c) = When (n ≡ operand_nesting c) (to_operand c ▹ Identified id n ▹ punctuator_at mark.OpenBracket at (n + 1))
+to_operand (in_column n id at e column_at c) =
+    When ((n ≡ operand_nesting c) × Fits any_expression e) (to_operand c ▹ spelled (index id at e) n ▹ punctuator_at mark.OpenBracket column_at (n + 1))
 to_operand (in_call n id es c) =
     When ((n ≡ operand_nesting c) × AllFit es) (to_operand c ▹ Identified id n ▹ punctuator mark.OpenParenthesis (n + 1) ▹ expressions_before es (n + 1))
 to_operand (in_prefix n o at c) = When (n ≡ operand_nesting c) (to_operand c ▹ punctuator_at (step_sign o) at (n + 1))
@@ -253,10 +282,12 @@ Spells (after_enumerator_name d id) = to_enumerator d ▹ Identified id (enumera
 Spells (after_braces s specs e) = to_enumeration s ▹ type_words specs (Some e) (enumeration_nesting s)
 Spells (after_specifiers s specs) = to_declaration s ▹ open_words specs (site_nesting s)
 Spells (after_name d id) = to_declarator d ▹ Identified id (site_nesting d.site)
-Spells (after_length d) = to_initializer d
+Spells (after_length d id e) = to_columns d id e
+Spells (after_columns d) = to_initializer d
 Spells (after_assign d) = to_value d
-Spells (after_brace d at) = to_brace d at
-Spells (after_item d at e es) = to_brace d at ▹ Items e es (naming_nesting d) ▹ punctuator mark.Comma (naming_nesting d)
+Spells (at_initializer_item d) = to_next_item d
+Spells (at_row_item d at es) = to_row_item d at es
+Spells (after_row d) = to_items_end d
 Spells (after_initializer d) = to_declarator_end d
 Spells (after_comma d) = to_declarator d
 Spells (parameters_open h) = to_parameters h ▹ punctuator mark.OpenParenthesis 1
@@ -280,6 +311,7 @@ Spells (returning n at o) = to_test key.Return n at o
 Spells (statement_end n s o) = When ((n ≡ outer_nesting o) × ¬ OpenEnd s) (to_statement o ▹ unended s n)
 Spells (operand n c) = When (n ≡ operand_nesting c) (to_operand c)
 Spells (named n id c) = When (n ≡ operand_nesting c) (to_operand c ▹ Identified id n)
+Spells (indexed n id at e c) = When ((n ≡ operand_nesting c) × Fits any_expression e) (to_operand c ▹ spelled (index id at e) n)
 Spells (arguments n id c) = When (n ≡ operand_nesting c) (to_operand c ▹ Identified id n ▹ punctuator mark.OpenParenthesis (n + 1))
 Spells (opened n at c) = When (n ≡ operand_nesting c) (to_operand c ▹ punctuator_at mark.OpenParenthesis at (n + 1))
 Spells (cast_specifiers n at specs c) =

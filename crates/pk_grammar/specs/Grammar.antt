@@ -22,7 +22,7 @@ use Rattle.pk_ast.specs.declared.operators.AssignmentOperator.TheVariants as asg
 use Rattle.pk_ast.specs.declared.units.Storage.{Storage}
 use Rattle.pk_ast.specs.declared.units.StorageWord.{StorageWord}
 use Rattle.pk_ast.specs.declared.units.StorageWord.TheVariants as storage
-use Rattle.pk_ast.specs.Trees.{OneOrMore, ExpressionTree, name, call, index, constant, character, parenthesized, postfix, prefix, unary, cast, binary, conditional, assignment, comma, ExpressionTrees, no_expressions, expression_then, InitializerTree, single, braced, DeclaratorTree, EnumeratorTree, EnumerationTree, DeclarationTree, ForStartTree, declaration, expression, StatementTree, block, empty, expression_statement, label, case, default, if_then, if_else, switch, while, do_while, for_loop, goto, continue, break, return, ItemTrees, no_items, declaration_then, statement_then, BlockTree, ParameterTree, ExternalTree, function, objects, type_names}
+use Rattle.pk_ast.specs.Trees.{OneOrMore, ExpressionTree, name, call, index, element, constant, character, parenthesized, postfix, prefix, unary, cast, binary, conditional, assignment, comma, ExpressionTrees, no_expressions, expression_then, InitializerItemTree, item_value, item_row, InitializerTree, single, braced, DimensionsTree, DeclaratorTree, EnumeratorTree, EnumerationTree, DeclarationTree, ForStartTree, declaration, expression, StatementTree, block, empty, expression_statement, label, case, default, if_then, if_else, switch, while, do_while, for_loop, goto, continue, break, return, ItemTrees, no_items, declaration_then, statement_then, BlockTree, ParameterTree, ExternalTree, function, objects, type_names}
 use Rattle.pk_grammar.specs.Languages.{Marked, Language, Nothing, One, At, Any, Identified, ◌⊙◌, Inside, Past, Optional, Where}
 
 -- Signs
@@ -152,6 +152,7 @@ abbrev mutual
   Fits level (name id) = Unit {0}
   Fits level (call id es) = AllFit es
   Fits level (index id at e) = Fits any_expression e
+  Fits level (element id at e column_at c) = Fits any_expression e × Fits any_expression c
   Fits level (constant at t v) = Unit {0}
   Fits level (character at v) = Unit {0}
   Fits level (parenthesized at e) = Fits any_expression e
@@ -167,61 +168,25 @@ abbrev mutual
       (level ≤ assignment_expression) × Fits unary_expression a × Fits assignment_expression b
   Fits level (comma at a b) = (level ≤ any_expression) × Fits any_expression a × Fits assignment_expression b
 
-  -- arguments, and the items of a braced list
+  -- arguments, and the values of a row in braces
   pub AllFit : ExpressionTrees → Type 0
   AllFit no_expressions = Unit {0}
   AllFit (expression_then e es) = Fits assignment_expression e × AllFit es
 
 -- How many operators of one form stand side by side in an expression: binary ones, of all strengths together,
 abbrev pub operators_in : ExpressionTree → ℕ
-operators_in (name id) = 0
-operators_in (call id es) = 0
-operators_in (index id at e) = 0
-operators_in (constant at t v) = 0
-operators_in (character at v) = 0
-operators_in (parenthesized at e) = 0
-operators_in (postfix o at e) = 0
-operators_in (prefix o at e) = 0
-operators_in (unary o at e) = 0
-operators_in (cast at specs e) = 0
 operators_in (binary o at a b) = operators_in a + 1 + operators_in b
-operators_in (conditional at c a b) = 0
-operators_in (assignment o at a b) = 0
-operators_in (comma at a b) = 0
+operators_in _ = 0
 
 -- postfix ones,
 abbrev pub postfixes_in : ExpressionTree → ℕ
-postfixes_in (name id) = 0
-postfixes_in (call id es) = 0
-postfixes_in (index id at e) = 0
-postfixes_in (constant at t v) = 0
-postfixes_in (character at v) = 0
-postfixes_in (parenthesized at e) = 0
 postfixes_in (postfix o at e) = postfixes_in e + 1
-postfixes_in (prefix o at e) = 0
-postfixes_in (unary o at e) = 0
-postfixes_in (cast at specs e) = 0
-postfixes_in (binary o at a b) = 0
-postfixes_in (conditional at c a b) = 0
-postfixes_in (assignment o at a b) = 0
-postfixes_in (comma at a b) = 0
+postfixes_in _ = 0
 
 -- and commas.
 abbrev pub commas_in : ExpressionTree → ℕ
-commas_in (name id) = 0
-commas_in (call id es) = 0
-commas_in (index id at e) = 0
-commas_in (constant at t v) = 0
-commas_in (character at v) = 0
-commas_in (parenthesized at e) = 0
-commas_in (postfix o at e) = 0
-commas_in (prefix o at e) = 0
-commas_in (unary o at e) = 0
-commas_in (cast at specs e) = 0
-commas_in (binary o at a b) = 0
-commas_in (conditional at c a b) = 0
-commas_in (assignment o at a b) = 0
 commas_in (comma at a b) = commas_in a + 1
+commas_in _ = 0
 
 abbrev pub specifier : Specifier → Language
 specifier s = One (λ t. IsWord s.word t × (t.at ≡ s.at))
@@ -232,44 +197,19 @@ specifier_list [] = Nothing
 specifier_list (s ∷ more) = specifier s ⊙ specifier_list more
 
 abbrev pub IsTypeName : SpecifierWord → Type 0
-IsTypeName word.Void = ⊥
-IsTypeName word.Char = ⊥
-IsTypeName word.Short = ⊥
-IsTypeName word.Int = ⊥
-IsTypeName word.Long = ⊥
-IsTypeName word.Signed = ⊥
-IsTypeName word.Unsigned = ⊥
-IsTypeName word.Const = ⊥
 IsTypeName (word.TypeName start end) = Unit {0}
-IsTypeName word.Enum = ⊥
-IsTypeName (word.Tag start end) = ⊥
+IsTypeName _ = ⊥
 
 abbrev pub IsTag : SpecifierWord → Type 0
-IsTag word.Void = ⊥
-IsTag word.Char = ⊥
-IsTag word.Short = ⊥
-IsTag word.Int = ⊥
-IsTag word.Long = ⊥
-IsTag word.Signed = ⊥
-IsTag word.Unsigned = ⊥
-IsTag word.Const = ⊥
-IsTag (word.TypeName start end) = ⊥
-IsTag word.Enum = ⊥
 IsTag (word.Tag start end) = Unit {0}
+IsTag _ = ⊥
 
 -- a keyword that may stand beside any others
 abbrev pub IsKeyword : SpecifierWord → Type 0
-IsKeyword word.Void = Unit {0}
-IsKeyword word.Char = Unit {0}
-IsKeyword word.Short = Unit {0}
-IsKeyword word.Int = Unit {0}
-IsKeyword word.Long = Unit {0}
-IsKeyword word.Signed = Unit {0}
-IsKeyword word.Unsigned = Unit {0}
-IsKeyword word.Const = Unit {0}
 IsKeyword (word.TypeName start end) = ⊥
 IsKeyword word.Enum = ⊥
 IsKeyword (word.Tag start end) = ⊥
+IsKeyword _ = Unit {0}
 
 abbrev pub AreKeywords : List Specifier → Type 0
 AreKeywords [] = Unit {0}
@@ -326,6 +266,9 @@ unfoldable mutual
       Identified id ⊙ Inside (punctuator mark.OpenParenthesis ⊙ spelled_list es) ⊙ punctuator mark.CloseParenthesis
   spelled (index id at e) =
       Identified id ⊙ Inside (punctuator_at mark.OpenBracket at ⊙ spelled e) ⊙ punctuator mark.CloseBracket
+  spelled (element id at e column_at c) =
+      Identified id ⊙ Inside (punctuator_at mark.OpenBracket at ⊙ spelled e) ⊙ punctuator mark.CloseBracket
+      ⊙ Inside (punctuator_at mark.OpenBracket column_at ⊙ spelled c) ⊙ punctuator mark.CloseBracket
   spelled (constant at t v) = At (kind.Constant t v) at
   spelled (character at v) = At (kind.Character v) at
   spelled (parenthesized at e) =
@@ -355,7 +298,7 @@ pub record Expression (level : ℕ) (e : ExpressionTree) (n : ℕ) (ts : List Ma
   pub fits : Fits level e
   pub is : spelled e n ts
 
--- one or more items of a braced list
+-- one or more values of a row in braces
 pub record Items (e : ExpressionTree) (es : ExpressionTrees) (n : ℕ) (ts : List Marked) : Type 0 where
   pub fit : AllFit (expression_then e es)
   pub is : spelled_list (expression_then e es) n ts
@@ -395,20 +338,39 @@ type_words s (Some e) = Where (AreBeforeBraces (all_of s) × AreConst e.qualifie
 
 -- Declarations
 
+-- a length in brackets, or none
 abbrev pub array_length : Option ExpressionTree → Language
 array_length None = Nothing
 array_length (Some e) =
     Inside (punctuator mark.OpenBracket ⊙ Expression conditional_expression e) ⊙ punctuator mark.CloseBracket
 
+-- the length of an array, or how many rows and columns it has
+abbrev pub dimensions : Option DimensionsTree → Language
+dimensions None = Nothing
+dimensions (Some d) = array_length (Some d.length) ⊙ array_length d.columns
+
+abbrev pub initializer_item : InitializerItemTree → Language
+initializer_item (item_value e) = Expression assignment_expression e
+initializer_item (item_row at e es) =
+    punctuator_at mark.OpenBrace at ⊙ Items e es ⊙ Optional (punctuator mark.Comma) ⊙ punctuator mark.CloseBrace
+
+-- with commas between them
+abbrev pub more_initializer_items : List InitializerItemTree → Language
+more_initializer_items [] = Nothing
+more_initializer_items (i ∷ more) = punctuator mark.Comma ⊙ initializer_item i ⊙ more_initializer_items more
+
+abbrev pub initializer_items : OneOrMore InitializerItemTree → Language
+initializer_items items = initializer_item items.first ⊙ more_initializer_items items.more
+
 abbrev pub initializer : Option InitializerTree → Language
 initializer None n ts = Nothing n ts
 initializer (Some (single e)) n ts = (punctuator mark.Assign ⊙ Expression assignment_expression e) n ts
-initializer (Some (braced at e es)) n ts =
-    (punctuator mark.Assign ⊙ punctuator_at mark.OpenBrace at ⊙ Items e es ⊙ Optional (punctuator mark.Comma)
-    ⊙ punctuator mark.CloseBrace) n ts
+initializer (Some (braced at items)) n ts =
+    (punctuator mark.Assign ⊙ punctuator_at mark.OpenBrace at ⊙ initializer_items items
+    ⊙ Optional (punctuator mark.Comma) ⊙ punctuator mark.CloseBrace) n ts
 
 abbrev pub declarator : DeclaratorTree → Language
-declarator d = Identified d.name ⊙ array_length d.length ⊙ initializer d.initializer
+declarator d = Identified d.name ⊙ dimensions d.dimensions ⊙ initializer d.initializer
 
 -- with commas between them
 abbrev pub more_declarators : List DeclaratorTree → Language

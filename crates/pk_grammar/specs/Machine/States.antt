@@ -8,7 +8,7 @@ use Rattle.pk_ast.specs.declared.operators.UnaryOperator.{UnaryOperator}
 use Rattle.pk_ast.specs.declared.operators.StepOperator.{StepOperator}
 use Rattle.pk_ast.specs.declared.operators.AssignmentOperator.{AssignmentOperator}
 use Rattle.pk_ast.specs.declared.units.Storage.{Storage}
-use Rattle.pk_ast.specs.Trees.{OneOrMore, ExpressionTree, ExpressionTrees, DeclaratorTree, EnumeratorTree, EnumerationTree, ForStartTree, StatementTree, ItemTrees, ParameterTree, ExternalTree}
+use Rattle.pk_ast.specs.Trees.{OneOrMore, ExpressionTree, ExpressionTrees, InitializerItemTree, DimensionsTree, DeclaratorTree, EnumeratorTree, EnumerationTree, ForStartTree, StatementTree, ItemTrees, ParameterTree, ExternalTree}
 use Rattle.pk_grammar.specs.declared.states.Testing.{Testing}
 
 -- a function of which everything before its parameters was read, and what stands before it
@@ -74,11 +74,23 @@ pub record Enumerated : Type 0 where
   pub specifiers : OneOrMore Specifier
   pub enumerators : OneOrMore EnumeratorTree
 
--- a declarator whose name was read, and its length
+-- a declarator whose name was read, and its dimensions
 pub record Naming : Type 0 where
   pub declaring : Declaring
   pub name : Identifier
-  pub length : Option ExpressionTree
+  pub dimensions : Option DimensionsTree
+
+-- an initialiser's braces, and the items read so far, behind which another one is to come
+pub record Initializing : Type 0 where
+  pub naming : Naming
+  pub brace : Pos
+  pub items : List InitializerItemTree
+
+-- the same, behind an item
+pub record Initialized : Type 0 where
+  pub naming : Naming
+  pub brace : Pos
+  pub items : OneOrMore InitializerItemTree
 
 -- what an expression is for that isn't part of another one
 pub data Purpose : Type 0 where
@@ -91,8 +103,10 @@ pub data Purpose : Type 0 where
   as_third : ℕ → Pos → ForStartTree → Option ExpressionTree → Outer → Purpose
   as_result : ℕ → Pos → Outer → Purpose
   as_length : Declaring → Identifier → Purpose
+  as_columns : Declaring → Identifier → ExpressionTree → Purpose
   as_value : Naming → Purpose
-  as_item : Naming → Pos → ExpressionTrees → Purpose
+  as_item : Initializing → Purpose
+  as_row_item : Initializing → Pos → ExpressionTrees → Purpose
   as_enumerator : Enumerating → Identifier → Purpose
 
 -- what an expression that is being read is part of; the numbers are the nesting outside
@@ -100,6 +114,7 @@ pub data Context : Type 0 where
   as_whole : Purpose → Context
   in_parentheses : ℕ → Pos → Context → Context
   in_index : ℕ → Identifier → Pos → Context → Context
+  in_column : ℕ → Identifier → Pos → ExpressionTree → Pos → Context → Context
   in_call : ℕ → Identifier → ExpressionTrees → Context → Context
   in_prefix : ℕ → StepOperator → Pos → Context → Context
   in_unary : ℕ → UnaryOperator → Pos → Context → Context
@@ -126,10 +141,13 @@ pub data State : Type 0 where
   -- in a declaration
   after_specifiers : Site → OneOrMore Specifier → State
   after_name : Declaring → Identifier → State
-  after_length : Naming → State
+  after_length : Declaring → Identifier → ExpressionTree → State
+  after_columns : Naming → State
   after_assign : Naming → State
-  after_brace : Naming → Pos → State
-  after_item : Naming → Pos → ExpressionTree → ExpressionTrees → State
+  -- in an initialiser's braces where an item may come, in a row's where a value may, and behind a row
+  at_initializer_item : Initializing → State
+  at_row_item : Initializing → Pos → ExpressionTrees → State
+  after_row : Initialized → State
   after_initializer : Declared → State
   after_comma : Declaring → State
   -- in a function's head
@@ -156,6 +174,7 @@ pub data State : Type 0 where
   -- in an expression
   operand : ℕ → Context → State
   named : ℕ → Identifier → Context → State
+  indexed : ℕ → Identifier → Pos → ExpressionTree → Context → State
   arguments : ℕ → Identifier → Context → State
   opened : ℕ → Pos → Context → State
   cast_specifiers : ℕ → Pos → OneOrMore Specifier → Context → State

@@ -11,7 +11,7 @@ use Rattle.pk_ast.specs.declared.operators.AssignmentOperator.{AssignmentOperato
 use Rattle.pk_ast.specs.declared.units.Storage.{Storage}
 use Rattle.pk_ast.specs.declared.units.StorageWord.{StorageWord}
 use Rattle.pk_ast.specs.Lists.{one, with_last, ended}
-use Rattle.pk_ast.specs.Trees.{OneOrMore, ExpressionTree, name, call, index, constant, character, parenthesized, postfix, prefix, unary, cast, binary, conditional, assignment, comma, ExpressionTrees, no_expressions, expression_then, InitializerTree, single, braced, DeclaratorTree, EnumeratorTree, EnumerationTree, DeclarationTree, declaration, expression, StatementTree, block, empty, expression_statement, label, case, default, if_then, if_else, switch, while, do_while, for_loop, goto, continue, break, return, ItemTrees, no_items, declaration_then, statement_then, ParameterTree, ExternalTree, function, objects, type_names}
+use Rattle.pk_ast.specs.Trees.{OneOrMore, ExpressionTree, name, call, index, element, constant, character, parenthesized, postfix, prefix, unary, cast, binary, conditional, assignment, comma, ExpressionTrees, no_expressions, expression_then, InitializerItemTree, item_value, item_row, InitializerTree, single, braced, DimensionsTree, DeclaratorTree, EnumeratorTree, EnumerationTree, DeclarationTree, declaration, expression, StatementTree, block, empty, expression_statement, label, case, default, if_then, if_else, switch, while, do_while, for_loop, goto, continue, break, return, ItemTrees, no_items, declaration_then, statement_then, ParameterTree, ExternalTree, function, objects, type_names}
 use Rattle.pk_grammar.specs.declared.states.Testing.{Testing}
 use Rattle.pk_grammar.specs.declared.states.Testing.TheVariants as testing
 use Rattle.pk_grammar.specs.declared.signs.Fixed.{Fixed}
@@ -25,7 +25,7 @@ use Rattle.pk_grammar.specs.declared.signs.StatementStart.TheVariants as first
 use Rattle.pk_grammar.specs.Languages.{identifier_of}
 use Rattle.pk_grammar.specs.Grammar.{all_of, any_expression, assignment_expression, conditional_expression, strength, weakest_operator, cast_expression, unary_expression, operators_in, postfixes_in, commas_in}
 use Rattle.pk_grammar.specs.Machine.Signs.{is_fixed, operand_start, operator_of, specifier_word, follows, following_word, shape_of, wants_tag, takes_braces, storage_word, statement_start, is_void_word}
-use Rattle.pk_grammar.specs.Machine.States.{Head, OpenBlock, function_block, inner_block, Outer, in_block, in_label, in_case, in_default, in_if, in_else, in_switch, in_while, in_do, in_for, Site, in_a_block, in_a_for, outside, Declaring, Declared, Naming, EnumerationSite, in_declaration, in_typedef, Enumerating, Enumerated, Purpose, as_statement, as_label, as_test, as_last_test, as_first, as_second, as_third, as_result, as_length, as_value, as_item, as_enumerator, Context, as_whole, in_parentheses, in_index, in_call, in_prefix, in_unary, in_cast, in_binary, in_choice, in_alternative, in_assignment, in_comma, State, top, after_storage, after_typedef, type_specifiers, after_type_name, type_name_comma, at_enumerator, after_enumerator_name, after_braces, after_specifiers, after_name, after_length, after_assign, after_brace, after_item, after_initializer, after_comma, parameters_open, parameter_specifiers, parameter_name, parameter_comma, parameters_closed, block_item, after_static, at_statement, after_statement, test_open, do_open, for_open, for_first, for_second, for_third, default_colon, goto_name, returning, statement_end, operand, named, arguments, opened, cast_specifiers, complete}
+use Rattle.pk_grammar.specs.Machine.States.{Head, OpenBlock, function_block, inner_block, Outer, in_block, in_label, in_case, in_default, in_if, in_else, in_switch, in_while, in_do, in_for, Site, in_a_block, in_a_for, outside, Declaring, Declared, Naming, Initializing, Initialized, EnumerationSite, in_declaration, in_typedef, Enumerating, Enumerated, Purpose, as_statement, as_label, as_test, as_last_test, as_first, as_second, as_third, as_result, as_length, as_columns, as_value, as_item, as_row_item, as_enumerator, Context, as_whole, in_parentheses, in_index, in_column, in_call, in_prefix, in_unary, in_cast, in_binary, in_choice, in_alternative, in_assignment, in_comma, State, top, after_storage, after_typedef, type_specifiers, after_type_name, type_name_comma, at_enumerator, after_enumerator_name, after_braces, after_specifiers, after_name, after_length, after_columns, after_assign, at_initializer_item, at_row_item, after_row, after_initializer, after_comma, parameters_open, parameter_specifiers, parameter_name, parameter_comma, parameters_closed, block_item, after_static, at_statement, after_statement, test_open, do_open, for_open, for_first, for_second, for_third, default_colon, goto_name, returning, statement_end, operand, named, indexed, arguments, opened, cast_specifiers, complete}
 
 -- what becomes of a state at a token: it is taken, nested so deep; or refused; or it is the end of a text
 pub data Verdict : Type 0 where
@@ -117,14 +117,17 @@ purpose_level (as_second n at f o) = any_expression
 purpose_level (as_third n at f e o) = any_expression
 purpose_level (as_result n at o) = any_expression
 purpose_level (as_length d id) = conditional_expression
+purpose_level (as_columns d id e) = conditional_expression
 purpose_level (as_value d) = assignment_expression
-purpose_level (as_item d at es) = assignment_expression
+purpose_level (as_item d) = assignment_expression
+purpose_level (as_row_item d at es) = assignment_expression
 purpose_level (as_enumerator d id) = conditional_expression
 
 abbrev pub operand_level : Context → ℕ
 operand_level (as_whole p) = purpose_level p
 operand_level (in_parentheses n at c) = any_expression
 operand_level (in_index n id at c) = any_expression
+operand_level (in_column n id at e column_at c) = any_expression
 operand_level (in_call n id es c) = assignment_expression
 operand_level (in_prefix n o at c) = unary_expression
 operand_level (in_unary n o at c) = cast_expression
@@ -146,6 +149,8 @@ unfoldable pub reduced : ℕ → ℕ → ExpressionTree → Context → Reduced
 reduced level n e (as_whole p) = record { nesting = n; tree = e; context = as_whole p }
 reduced level n e (in_parentheses m at c) = record { nesting = n; tree = e; context = in_parentheses m at c }
 reduced level n e (in_index m id at c) = record { nesting = n; tree = e; context = in_index m id at c }
+reduced level n e (in_column m id at d column_at c) =
+    record { nesting = n; tree = e; context = in_column m id at d column_at c }
 reduced level n e (in_call m id es c) = record { nesting = n; tree = e; context = in_call m id es c }
 reduced level n e (in_prefix m o at c) = reduced level m (prefix o at e) c
 reduced level n e (in_unary m o at c) = reduced level m (unary o at e) c
@@ -192,7 +197,7 @@ with_declarator d x = record {
 }
 
 abbrev pub with_initializer : Naming → Option InitializerTree → Declared
-with_initializer d i = with_declarator d.declaring (record { name = d.name; length = d.length; initializer = i })
+with_initializer d i = with_declarator d.declaring (record { name = d.name; dimensions = d.dimensions; initializer = i })
 
 abbrev pub whole_declaration : Declared → DeclarationTree
 whole_declaration d =
@@ -228,8 +233,41 @@ abbrev pub after_declarator : Declared → Token → Verdict
 after_declarator d t =
     if is_fixed fixed.Comma t.kind then next_declarator d else wanted fixed.Semicolon t (end_declaration d)
 
+abbrev pub with_dimensions : Declaring → Identifier → DimensionsTree → Naming
+with_dimensions d id l = record { declaring = d; name = id; dimensions = Some l }
+
 abbrev pub naming_nesting : Naming → ℕ
 naming_nesting d = site_nesting d.declaring.site
+
+-- Items of an initialiser's braces
+
+abbrev pub initializing_nesting : Initializing → ℕ
+initializing_nesting d = naming_nesting d.naming
+
+abbrev pub with_item : Initializing → InitializerItemTree → Initialized
+with_item d i = record { naming = d.naming; brace = d.brace; items = ended d.items i }
+
+-- behind the braces
+abbrev pub close_initializer : Initialized → Verdict
+close_initializer d =
+    taken (naming_nesting d.naming) (after_initializer (with_initializer d.naming (Some (braced d.brace d.items))))
+
+abbrev pub next_item : Initialized → Verdict
+next_item d =
+    taken (naming_nesting d.naming)
+    (at_initializer_item (record {
+      naming = d.naming;
+      brace = d.brace;
+      items = d.items.first ∷ d.items.more;
+    }))
+
+-- after an item: a comma, or the `}`
+abbrev pub after_item : Initialized → Token → Verdict
+after_item d t = if is_fixed fixed.Comma t.kind then next_item d else wanted fixed.CloseBrace t (close_initializer d)
+
+-- behind the `}` of a row
+abbrev pub close_row : Initializing → Pos → ExpressionTree → ExpressionTrees → Verdict
+close_row d at e es = taken (initializing_nesting d) (after_row (with_item d (item_row at e es)))
 
 -- Enumerations
 
@@ -271,19 +309,7 @@ tested testing.While n at e o = in_while n at e o
 -- a colon after an expression: a label, where that is a name
 abbrev pub labelled : ℕ → ExpressionTree → Outer → Token → Verdict
 labelled n (name id) o t = wanted fixed.Colon t (taken (n + 1) (at_statement (n + 1) (in_label n id o)))
-labelled n (call id es) o t = refused
-labelled n (index id at e) o t = refused
-labelled n (constant at ty v) o t = refused
-labelled n (character at v) o t = refused
-labelled n (parenthesized at e) o t = refused
-labelled n (postfix p at e) o t = refused
-labelled n (prefix p at e) o t = refused
-labelled n (unary p at e) o t = refused
-labelled n (cast at specs e) o t = refused
-labelled n (binary p at a b) o t = refused
-labelled n (conditional at d a b) o t = refused
-labelled n (assignment p at a b) o t = refused
-labelled n (comma at a b) o t = refused
+labelled n _ o t = refused
 
 -- an expression that isn't part of another one ends at this token
 abbrev pub end_purpose : Purpose → ExpressionTree → Token → Verdict
@@ -300,12 +326,14 @@ end_purpose (as_third n at f second o) e t =
     wanted fixed.CloseParenthesis t (taken (n + 1) (at_statement (n + 1) (in_for n at f second (Some e) o)))
 end_purpose (as_result n at o) e t = wanted fixed.Semicolon t (taken n (after_statement (return at (Some e)) o))
 end_purpose (as_length d id) e t =
+    wanted fixed.CloseBracket t (taken (site_nesting d.site) (after_length d id e))
+end_purpose (as_columns d id length) e t =
     wanted fixed.CloseBracket t
-    (taken (site_nesting d.site) (after_length (record { declaring = d; name = id; length = Some e })))
+    (taken (site_nesting d.site) (after_columns (with_dimensions d id (record { length = length; columns = Some e }))))
 end_purpose (as_value d) e t = wanted fixed.Semicolon t (end_declaration (with_initializer d (Some (single e))))
-end_purpose (as_item d at es) e t =
-    wanted fixed.CloseBrace t (taken (naming_nesting d)
-    (after_initializer (with_initializer d (Some (braced at (first_item es e) (more_items es e))))))
+end_purpose (as_item d) e t = wanted fixed.CloseBrace t (close_initializer (with_item d (item_value e)))
+end_purpose (as_row_item d at es) e t =
+    wanted fixed.CloseBrace t (close_row d at (first_item es e) (more_items es e))
 end_purpose (as_enumerator d id) e t = wanted fixed.CloseBrace t (close_braces (with_enumerator d id (Some e)))
 
 -- an expression ends at this token, which is no operator
@@ -313,7 +341,9 @@ abbrev pub end_expression : ExpressionTree → Context → Token → Verdict
 end_expression e (as_whole p) t = end_purpose p e t
 end_expression e (in_parentheses n at c) t =
     wanted fixed.CloseParenthesis t (taken n (complete n (parenthesized at e) c))
-end_expression e (in_index n id at c) t = wanted fixed.CloseBracket t (taken n (complete n (index id at e) c))
+end_expression e (in_index n id at c) t = wanted fixed.CloseBracket t (taken n (indexed n id at e c))
+end_expression e (in_column n id at d column_at c) t =
+    wanted fixed.CloseBracket t (taken n (complete n (element id at d column_at e) c))
 end_expression e (in_call n id es c) t =
     wanted fixed.CloseParenthesis t (taken n (complete n (call id (one_more es e)) c))
 end_expression e (in_prefix n o at c) t = refused
@@ -340,14 +370,17 @@ comma_purpose (as_second m at f o) n e t = join_comma n e (as_whole (as_second m
 comma_purpose (as_third m at f second o) n e t = join_comma n e (as_whole (as_third m at f second o)) t
 comma_purpose (as_result m at o) n e t = join_comma n e (as_whole (as_result m at o)) t
 comma_purpose (as_length d id) n e t = refused
+comma_purpose (as_columns d id length) n e t = refused
 comma_purpose (as_value d) n e t = next_declarator (with_initializer d (Some (single e)))
-comma_purpose (as_item d at es) n e t = taken (naming_nesting d) (after_item d at (first_item es e) (more_items es e))
+comma_purpose (as_item d) n e t = next_item (with_item d (item_value e))
+comma_purpose (as_row_item d at es) n e t = taken (initializing_nesting d) (at_row_item d at (one_more es e))
 comma_purpose (as_enumerator d id) n e t = next_enumerator (with_enumerator d id (Some e))
 
 abbrev pub comma_after : ℕ → ExpressionTree → Context → Token → Verdict
 comma_after n e (as_whole p) t = comma_purpose p n e t
 comma_after n e (in_parentheses m at c) t = join_comma n e (in_parentheses m at c) t
 comma_after n e (in_index m id at c) t = join_comma n e (in_index m id at c) t
+comma_after n e (in_column m id at d column_at c) t = join_comma n e (in_column m id at d column_at c) t
 comma_after n e (in_call m id es c) t = taken (m + 1) (operand (m + 1) (in_call m id (one_more es e) c))
 comma_after n e (in_prefix m o at c) t = refused
 comma_after n e (in_unary m o at c) t = refused
@@ -368,20 +401,12 @@ join_question r t = taken (r.nesting + 1) (operand (r.nesting + 1) (in_choice r.
 
 -- an expression of the form that an assignment takes on its left
 abbrev pub is_unary : ExpressionTree → Bool
-is_unary (name id) = true
-is_unary (call id es) = true
-is_unary (index id at e) = true
-is_unary (constant at ty v) = true
-is_unary (character at v) = true
-is_unary (parenthesized at e) = true
-is_unary (postfix o at e) = true
-is_unary (prefix o at e) = true
-is_unary (unary o at e) = true
 is_unary (cast at specs e) = false
 is_unary (binary o at a b) = false
 is_unary (conditional at d a b) = false
 is_unary (assignment o at a b) = false
 is_unary (comma at a b) = false
+is_unary _ = true
 
 abbrev pub join_assignment : AssignmentOperator → Reduced → Token → Verdict
 join_assignment o r t =
@@ -407,6 +432,12 @@ at_named n id c t =
     if is_fixed fixed.OpenParenthesis t.kind then taken (n + 1) (arguments n id c) else
     if is_fixed fixed.OpenBracket t.kind then taken (n + 1) (operand (n + 1) (in_index n id t.at c)) else
     at_complete n (name id) c t
+
+-- behind an index, where that of a column may come
+abbrev pub at_indexed : ℕ → Identifier → Pos → ExpressionTree → Context → Token → Verdict
+at_indexed n id at e c t =
+    if is_fixed fixed.OpenBracket t.kind then taken (n + 1) (operand (n + 1) (in_column n id at e t.at c))
+    else at_complete n (index id at e) c t
 
 abbrev pub at_arguments : ℕ → Identifier → Context → Token → Verdict
 at_arguments n id c t =
@@ -567,8 +598,8 @@ at_after_braces s specs e t =
     then taken (enumeration_nesting s) (after_braces s specs (with_qualifier e (specifier_at t word.Const)))
     else behind_braces s specs e t
 
-abbrev pub without_length : Declaring → Identifier → Naming
-without_length d id = record { declaring = d; name = id; length = None }
+abbrev pub without_dimensions : Declaring → Identifier → Naming
+without_dimensions d id = record { declaring = d; name = id; dimensions = None }
 
 -- a function, where this is the first declarator of an external definition and no enumeration is before it
 abbrev pub open_parameters : Site → OneOrMore Specifier → Option EnumerationTree → List DeclaratorTree → Identifier →
@@ -580,30 +611,53 @@ open_parameters (outside before s) specs None [] id =
 open_parameters (outside before s) specs None (d ∷ ds) id = refused
 open_parameters (outside before s) specs (Some e) ds id = refused
 
+-- behind a declarator's dimensions
+abbrev pub at_after_dimensions : Naming → Token → Verdict
+at_after_dimensions d t =
+    if is_fixed fixed.Assign t.kind then taken (naming_nesting d) (after_assign d)
+    else after_declarator (with_initializer d None) t
+
 abbrev pub at_after_name : Declaring → Identifier → Token → Verdict
 at_after_name d id t =
     if is_fixed fixed.OpenParenthesis t.kind
     then open_parameters d.site d.specifiers d.enumeration d.declarators id else
     if is_fixed fixed.OpenBracket t.kind
     then taken (site_nesting d.site + 1) (operand (site_nesting d.site + 1) (as_whole (as_length d id))) else
-    if is_fixed fixed.Assign t.kind then taken (site_nesting d.site) (after_assign (without_length d id)) else
-    after_declarator (with_initializer (without_length d id) None) t
+    at_after_dimensions (without_dimensions d id) t
 
-abbrev pub at_after_length : Naming → Token → Verdict
-at_after_length d t =
-    if is_fixed fixed.Assign t.kind then taken (naming_nesting d) (after_assign d)
-    else after_declarator (with_initializer d None) t
+abbrev pub at_after_length : Declaring → Identifier → ExpressionTree → Token → Verdict
+at_after_length d id e t =
+    if is_fixed fixed.OpenBracket t.kind
+    then taken (site_nesting d.site + 1) (operand (site_nesting d.site + 1) (as_whole (as_columns d id e))) else
+    at_after_dimensions (with_dimensions d id (record { length = e; columns = None })) t
 
 abbrev pub at_after_assign : Naming → Token → Verdict
 at_after_assign d t =
-    if is_fixed fixed.OpenBrace t.kind then taken (naming_nesting d) (after_brace d t.at)
+    if is_fixed fixed.OpenBrace t.kind
+    then taken (naming_nesting d) (at_initializer_item (record { naming = d; brace = t.at; items = [] }))
     else at_operand (naming_nesting d) (as_whole (as_value d)) t
 
-abbrev pub at_after_item : Naming → Pos → ExpressionTree → ExpressionTrees → Token → Verdict
-at_after_item d at e es t =
-    if is_fixed fixed.CloseBrace t.kind
-    then taken (naming_nesting d) (after_initializer (with_initializer d (Some (braced at e es))))
-    else at_operand (naming_nesting d) (as_whole (as_item d at (expression_then e es))) t
+-- the `}` behind items, the last of which a comma follows
+abbrev pub end_items : Naming → Pos → List InitializerItemTree → Verdict
+end_items d at [] = refused
+end_items d at (i ∷ more) =
+    close_initializer (record { naming = d; brace = at; items = record { first = i; more = more } })
+
+abbrev pub at_next_item : Initializing → Token → Verdict
+at_next_item d t =
+    if is_fixed fixed.OpenBrace t.kind then taken (initializing_nesting d) (at_row_item d t.at no_expressions) else
+    if is_fixed fixed.CloseBrace t.kind then end_items d.naming d.brace d.items else
+    at_operand (initializing_nesting d) (as_whole (as_item d)) t
+
+-- the `}` behind the values of a row, the last of which a comma follows
+abbrev pub end_row : Initializing → Pos → ExpressionTrees → Verdict
+end_row d at no_expressions = refused
+end_row d at (expression_then e es) = close_row d at e es
+
+abbrev pub at_next_row_item : Initializing → Pos → ExpressionTrees → Token → Verdict
+at_next_row_item d at es t =
+    if is_fixed fixed.CloseBrace t.kind then end_row d at es else
+    at_operand (initializing_nesting d) (as_whole (as_row_item d at es)) t
 
 -- External definitions
 
@@ -696,10 +750,12 @@ step (after_enumerator_name d id) t = at_enumerator_name d id t
 step (after_braces s specs e) t = at_after_braces s specs e t
 step (after_specifiers s specs) t = more_specifiers s specs t (next_word specs t)
 step (after_name d id) t = at_after_name d id t
-step (after_length d) t = at_after_length d t
+step (after_length d id e) t = at_after_length d id e t
+step (after_columns d) t = at_after_dimensions d t
 step (after_assign d) t = at_after_assign d t
-step (after_brace d at) t = at_operand (naming_nesting d) (as_whole (as_item d at no_expressions)) t
-step (after_item d at e es) t = at_after_item d at e es t
+step (at_initializer_item d) t = at_next_item d t
+step (at_row_item d at es) t = at_next_row_item d at es t
+step (after_row d) t = after_item d t
 step (after_initializer d) t = after_declarator d t
 step (after_comma d) t = wanted fixed.Name t (taken (site_nesting d.site) (after_name d (identifier_of t)))
 step (parameters_open h) t =
@@ -733,6 +789,7 @@ step (returning n at o) t =
 step (statement_end n s o) t = wanted fixed.Semicolon t (taken n (after_statement s o))
 step (operand n c) t = at_operand n c t
 step (named n id c) t = at_named n id c t
+step (indexed n id at e c) t = at_indexed n id at e c t
 step (arguments n id c) t = at_arguments n id c t
 step (opened n at c) t = at_opened n at c t
 step (cast_specifiers n at specs c) t = more_cast n at specs c t (next_word specs t)
