@@ -24,6 +24,7 @@ pub fn is_constant_form(scope: &Scope<'_>, expression: &Expression) -> bool
         Expression::Name(x) => is_enumerator(scope.lookup(*x)),
         Expression::Call(_, _) => false,
         Expression::Index(_, _, _) => false,
+        Expression::Element { .. } => false,
         Expression::Constant(_, _, _) => true,
         Expression::Character(_, _) => true,
         Expression::Parenthesized(_, inner) => is_constant_form(scope, inner),
