@@ -14,7 +14,7 @@ use Rattle.pk_ast.specs.declared.operators.StepOperator.{StepOperator}
 use Rattle.pk_ast.specs.declared.operators.AssignmentOperator.{AssignmentOperator}
 use Rattle.pk_ast.specs.Operators.{assignment_number_operator}
 use Rattle.pk_ast.specs.Places.{first_place_of}
-use Rattle.pk_ast.specs.Trees.{OneOrMore, ExpressionTree, ExpressionTrees, name, call, index, constant, character, parenthesized, postfix, prefix, unary, cast, binary, conditional, assignment, comma, no_expressions, expression_then}
+use Rattle.pk_ast.specs.Trees.{OneOrMore, ExpressionTree, ExpressionTrees, name, call, index, element, constant, character, parenthesized, postfix, prefix, unary, cast, binary, conditional, assignment, comma, no_expressions, expression_then}
 use Rattle.pk_typed.specs.Trees.{ValueTrees}
 use Rattle.pk_type_scope.specs.declared.declarations.Declaration.{Declaration}
 use Rattle.pk_type_scope.specs.declared.declarations.Typing.{Typing}
@@ -25,7 +25,7 @@ use Rattle.pk_type_expression.specs.Mentions.{Mentioned, named, changed, mention
 use Rattle.pk_type_expression.specs.Types.{type_of, target_of, type_of_call}
 use Rattle.pk_type_expression.specs.Typed.{typed, typed_all, typed_call, calls, calls_in_all}
 use Rattle.pk_type_expression.specs.Rules.{count, undeclared, void, array, place, constness, arguments, unsequenced, failures}
-use Rattle.pk_type_expression.specs.Forms.{name_failures, known_name, element_failures, known_element, known_constant, call_failures, known_call, step_failures, known_step, known_unary, known_cast, binary_failures, known_binary, known_conditional, assignment_failures, known_assignment, known_comma}
+use Rattle.pk_type_expression.specs.Forms.{name_failures, known_name, element_failures, known_element, row_element_failures, known_row_element, known_constant, call_failures, known_call, step_failures, known_step, known_unary, known_cast, binary_failures, known_binary, known_conditional, assignment_failures, known_assignment, known_comma}
 use Rattle.pk_type_scope.specs.Notes.{Noted, with_failures}
 use Rattle.pk_type_expression.specs.Views.{Known, known, after, after_used, after_all}
 use Rattle.pk_type_scope.proofs.FailureLemmas.{noted_append, same_noted}
@@ -55,6 +55,17 @@ element_notes d e i x at o s t u is look during h = rw (h, during, look, is) (sa
 pub element_known : (d : Names) (n : ℕ) (e i : ExpressionTree) (x : Identifier) (at : Pos) (o : Option Declaration) (c k : Known) → e ≡ index x at i → o ≡ d x → k ≡ known d n i → c ≡ known_element at o k → c ≡ known d n e
 unfolding type_of target_of named changed typed
 element_known d n e i x at o c k is look inner h = rw (h, inner, look, is) refl
+
+-- an element of a row
+pub row_element_notes : (d : Names) (e a b : ExpressionTree) (x : Identifier) (at column_at : Pos) (o : Option Declaration) (s t u v : Noted)
+    → e ≡ element x at a column_at b → o ≡ d x → t ≡ after_used d a s → u ≡ after_used d b t → v ≡ with_failures u (row_element_failures x.at o) → v ≡ after d e s
+unfolding failures undeclared array place constness arguments unsequenced calls
+row_element_notes d e a b x at column_at o s t u v is look first second h = rw (h, second, first, look, is) (same_noted _ _ _ _ (simp noted_append) (append_assoc s.calls (calls d a) (calls d b)))
+
+pub row_element_known : (d : Names) (m n : ℕ) (e a b : ExpressionTree) (x : Identifier) (at column_at : Pos) (o : Option Declaration) (c k l : Known)
+    → e ≡ element x at a column_at b → o ≡ d x → k ≡ known d m a → l ≡ known d n b → c ≡ known_row_element o k l → c ≡ known d m e
+unfolding type_of target_of named changed typed
+row_element_known d m n e a b x at column_at o c k l is look left right h = rw (h, right, left, look, is) refl
 
 -- constants
 pub constant_notes : (d : Names) (e : ExpressionTree) (at : Pos) (t : IntType) (n : ℕ) (s : Noted) → e ≡ constant at t n → s ≡ after d e s

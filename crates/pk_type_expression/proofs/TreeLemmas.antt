@@ -12,6 +12,7 @@ use Rattle.pk_ast.specs.declared.declarations.Specifier.{Specifier}
 use Rattle.pk_ast.specs.declared.expressions.Identifier.{Identifier}
 use Rattle.pk_ast.specs.declared.operators.StepOperator.{StepOperator}
 use Rattle.pk_ast.specs.Operators.{binary_number_operator, unary_number_operator, assignment_number_operator}
+use Rattle.pk_ast.specs.Trees as ast
 use Rattle.pk_ast.specs.Trees.{OneOrMore, ExpressionTree, ExpressionTrees, name, call, index, constant, character, parenthesized, postfix, prefix, unary, cast, binary, conditional, assignment, comma, no_expressions, expression_then}
 use Rattle.pk_typed.specs.declared.values.Variable.{Variable}
 use Rattle.pk_typed.specs.Trees.{PlaceTree, ValueTree, ValueTrees, scalar, element, read, any, abort, no_values, value_before}
@@ -179,6 +180,7 @@ place_there : (d : Names) (n : ℕ) (e : ExpressionTree) → IsTreeOf (type_of d
 unfolding type_of target_of typed
 place_there d n (name x) h p = name_place (d x) h p
 place_there d n (index x at i) h p = element_place (d x) at (value_of (typed d n i)) h
+place_there d n (ast.element x at e column_at c) h p = absurd (cc)
 place_there d n (parenthesized at e) h p = place_there d n e h p
 place_there d n (call x es) h p = absurd (cc)
 place_there d n (constant at t v) h p = absurd (cc)
@@ -324,6 +326,10 @@ mutual
       let used : failures d e ++ void d e ≡ [] = none_before (failures d e ++ void d e) (own d (index x at e)) q in
       element_tree (d x) at (type_of d e) (typed d n e) (h x) (holds_not _ _ _ o.undeclared) (holds_not _ _ _ o.array)
       (used_value d n e (none_after (failures d e) (void d e) used) (tree_there d h n e (none_before (failures d e) (void d e) used)))
+  tree_there d h n (ast.element x at e column_at c) p =
+      let q : failures d e ++ void d e ++ failures d c ++ void d c ++ own d (ast.element x at e column_at c) ≡ [] = p in
+      let o : OwnNone d (ast.element x at e column_at c) = own_none d (ast.element x at e column_at c) (none_after (failures d e ++ void d e ++ failures d c ++ void d c) (own d (ast.element x at e column_at c)) q) in
+      absurd (let t : true ≡ false = holds_not _ _ _ o.array in cc)
   tree_there d h n (constant at t v) p = refl
   tree_there d h n (character at v) p = refl
   tree_there d h n (parenthesized at e) p = tree_there d h n e p

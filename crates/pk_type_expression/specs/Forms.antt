@@ -1,5 +1,5 @@
 -- What each form of expression makes of what is known of its parts, and which rules fail at it.
-use Rattle.std.specs.Prelude.{ℕ, ℤ, Bool, ◌&&◌, not, Option, Some, None, List, [], ◌++◌, is_some, option_map, length}
+use Rattle.std.specs.Prelude.{ℕ, ℤ, Bool, true, ◌&&◌, not, Option, Some, None, List, [], ◌++◌, is_some, option_map, length}
 use Rattle.pk_ctypes.specs.declared.places.Pos.{Pos}
 use Rattle.pk_ctypes.specs.declared.types.IntType.{IntType}
 use Rattle.pk_ctypes.specs.declared.words.Rule.TheVariants as rule
@@ -54,6 +54,17 @@ known_element at d index = record {
   target = of_object (element_target at) d;
   mentions = joined (record { named = object_named d; changed = [] }) index.mentions;
   tree = valued (of_object (element_value at (value_of index.tree)) d);
+}
+
+abbrev pub row_element_failures : Pos → Option Declaration → List Failure
+row_element_failures at d = fails_if (not (is_object d)) rule.Undeclared at ++ fails_if true rule.Array at
+
+abbrev pub known_row_element : Option Declaration → Known → Known → Known
+known_row_element d row column = record {
+  typing = type_of_target None;
+  target = None;
+  mentions = joined (joined (record { named = object_named d; changed = [] }) row.mentions) column.mentions;
+  tree = None;
 }
 
 abbrev pub known_constant : IntType → ℤ → Known

@@ -1,7 +1,7 @@
 -- Which objects an expression names, and which it changes. Calls are not looked into.
 use Rattle.std.specs.Prelude.{Bool, true, false, ◌||◌, Option, Some, None, List, [], ◌∷◌, ◌++◌, nat_eq, if◌then◌else◌}
 use Rattle.std.specs.List.{list_any}
-use Rattle.pk_ast.specs.Trees.{ExpressionTree, ExpressionTrees, name, call, index, constant, character, parenthesized, postfix, prefix, unary, cast, binary, conditional, assignment, comma, no_expressions, expression_then}
+use Rattle.pk_ast.specs.Trees.{ExpressionTree, ExpressionTrees, name, call, index, element, constant, character, parenthesized, postfix, prefix, unary, cast, binary, conditional, assignment, comma, no_expressions, expression_then}
 use Rattle.pk_typed.specs.declared.values.Variable.{Variable}
 use Rattle.pk_typed.specs.declared.values.Variable.TheVariants.{File, Local}
 use Rattle.pk_type_scope.specs.declared.declarations.Declaration.{Declaration}
@@ -32,6 +32,7 @@ unfoldable mutual
   named d (name x) = object_named (d x)
   named d (call x es) = named_in_all d es
   named d (index x at e) = object_named (d x) ++ named d e
+  named d (element x at e column_at c) = (object_named (d x) ++ named d e) ++ named d c
   named d (constant at t n) = []
   named d (character at n) = []
   named d (parenthesized at e) = named d e
@@ -53,6 +54,7 @@ unfoldable mutual
   changed d (name x) = []
   changed d (call x es) = changed_in_all d es
   changed d (index x at e) = changed d e
+  changed d (element x at e column_at c) = changed d e ++ changed d c
   changed d (constant at t n) = []
   changed d (character at n) = []
   changed d (parenthesized at e) = changed d e

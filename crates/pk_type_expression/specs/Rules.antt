@@ -1,10 +1,10 @@
 -- Where each rule fails in an expression: the rows of the table of rules, then the walk that asks them everywhere.
-use Rattle.std.specs.Prelude.{ℕ, ◌+◌, Bool, false, ◌&&◌, ◌||◌, not, Option, Some, None, List, [], ◌++◌, nat_eq, is_some, if◌then◌else◌}
+use Rattle.std.specs.Prelude.{ℕ, ◌+◌, Bool, true, false, ◌&&◌, ◌||◌, not, Option, Some, None, List, [], ◌++◌, nat_eq, is_some, if◌then◌else◌}
 use Rattle.pk_ctypes.specs.declared.places.Pos.{Pos}
 use Rattle.pk_ctypes.specs.declared.words.Rule.TheVariants as rule
 use Rattle.pk_ast.specs.Operators.{binary_number_operator, assignment_number_operator}
 use Rattle.pk_ast.specs.Places.{first_place_of}
-use Rattle.pk_ast.specs.Trees.{ExpressionTree, ExpressionTrees, name, call, index, constant, character, parenthesized, postfix, prefix, unary, cast, binary, conditional, assignment, comma, no_expressions, expression_then}
+use Rattle.pk_ast.specs.Trees.{ExpressionTree, ExpressionTrees, name, call, index, element, constant, character, parenthesized, postfix, prefix, unary, cast, binary, conditional, assignment, comma, no_expressions, expression_then}
 use Rattle.pk_type_scope.specs.declared.declarations.Declaration.{Declaration}
 use Rattle.pk_type_scope.specs.declared.declarations.Declaration.TheVariants as declared
 use Rattle.pk_type_expression.specs.declared.names.Target.{Target}
@@ -20,16 +20,18 @@ unfoldable pub undeclared : Names → ExpressionTree → List Failure
 undeclared d (name x) = fails_if (not (is_object (d x))) rule.Undeclared x.at
 undeclared d (call x es) = fails_if (not (is_function (d x))) rule.Undeclared x.at
 undeclared d (index x at e) = fails_if (not (is_object (d x))) rule.Undeclared x.at
+undeclared d (element x at e column_at c) = fails_if (not (is_object (d x))) rule.Undeclared x.at
 undeclared d _ = []
 
 -- void: a void value is used; at the operand's first token. (The walk says which operands are used.)
 unfoldable pub void : Names → ExpressionTree → List Failure
 void d e = fails_if (is_void (type_of d e)) rule.Void (first_place_of e)
 
--- array: an array without index, an index on a scalar; at the name
+-- array: an array without index, an index on a scalar, two indices, since no array has rows and columns; at the name
 unfoldable pub array : Names → ExpressionTree → List Failure
 array d (name x) = fails_if (is_array (d x)) rule.Array x.at
 array d (index x at e) = fails_if (is_scalar (d x)) rule.Array x.at
+array d (element x at e column_at c) = fails_if true rule.Array x.at
 array d _ = []
 
 -- place: an assigned or stepped operand is no scalar name or element (an enumerator is neither); at the operator
@@ -101,6 +103,8 @@ unfoldable mutual
   failures d (name x) = own d (name x)
   failures d (call x es) = failures_used d es ++ own d (call x es)
   failures d (index x at e) = failures d e ++ void d e ++ own d (index x at e)
+  failures d (element x at e column_at c) =
+      failures d e ++ void d e ++ failures d c ++ void d c ++ own d (element x at e column_at c)
   failures d (constant at t n) = []
   failures d (character at n) = []
   failures d (parenthesized at e) = failures d e

@@ -170,6 +170,7 @@ unfoldable mutual
   calls d (ast.name x) = []
   calls d (ast.call x es) = own_site x.at (d x) ++ calls_in_all d es
   calls d (ast.index x at e) = calls d e
+  calls d (ast.element x at e column_at c) = calls d e ++ calls d c
   calls d (ast.constant at t n) = []
   calls d (ast.character at n) = []
   calls d (ast.parenthesized at e) = calls d e
@@ -199,6 +200,7 @@ unfoldable mutual
   typed d n (ast.name x) = valued (name_value (d x))
   typed d n (ast.call x es) = typed_call (d x) n x.at (typed_all d (n + length (own_site x.at (d x))) es)
   typed d n (ast.index x at e) = valued (of_object (element_value at (value_of (typed d n e))) (d x))
+  typed d n (ast.element x at e column_at c) = None
   typed d n (ast.constant at t v) = Some (value (tree.constant t (pos v)))
   typed d n (ast.character at v) = Some (value (tree.constant Int v))
   typed d n (ast.parenthesized at e) = typed d n e

@@ -9,7 +9,7 @@ use Rattle.pk_ctypes.specs.Classes as classes
 use Rattle.pk_ctypes.specs.Conversions.{promoted, usual_of}
 use Rattle.pk_ctypes.specs.Operators.{result_type}
 use Rattle.pk_ast.specs.Operators.{binary_number_operator, unary_number_operator}
-use Rattle.pk_ast.specs.Trees.{ExpressionTree, name, call, index, constant, character, parenthesized, postfix, prefix, unary, cast, binary, conditional, assignment, comma}
+use Rattle.pk_ast.specs.Trees.{ExpressionTree, name, call, index, element, constant, character, parenthesized, postfix, prefix, unary, cast, binary, conditional, assignment, comma}
 use Rattle.pk_type_scope.specs.declared.declarations.Declaration.{Declaration}
 use Rattle.pk_type_scope.specs.declared.declarations.Declaration.TheVariants as declared
 use Rattle.pk_type_scope.specs.declared.declarations.Object.{Object}
@@ -49,10 +49,11 @@ of_object f (Some (declared.Function g)) = None
 of_object f (Some (declared.Enumerator n)) = None
 of_object f (Some (declared.TypeName t)) = None
 
--- what an expression lets change, through parentheses (6.5.1, 6.3.2.1)
+-- What an expression lets change, through parentheses (6.5.1, 6.3.2.1). No array has rows and columns, so two indices give nothing.
 unfoldable pub target_of : Names → ExpressionTree → Option Target
 target_of d (name x) = of_object scalar_target (d x)
 target_of d (index x at e) = of_object (element_target at) (d x)
+target_of d (element x at e column_at c) = None
 target_of d (parenthesized at e) = target_of d e
 target_of d (call x es) = None
 target_of d (constant at t n) = None
@@ -112,6 +113,7 @@ unfoldable pub type_of : Names → ExpressionTree → Typing
 type_of d (name x) = type_of_name (d x)
 type_of d (call x es) = type_of_call (d x)
 type_of d (index x at e) = type_of_target (target_of d (index x at e))
+type_of d (element x at e column_at c) = type_of_target (target_of d (element x at e column_at c))
 type_of d (constant at t n) = Integer t
 type_of d (character at n) = Integer Int
 type_of d (parenthesized at e) = type_of d e

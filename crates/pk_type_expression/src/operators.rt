@@ -210,6 +210,32 @@ pub(crate) fn element(
     })
 }
 
+/// An element of a row, by two indices: its name at `at`. No array has rows and columns.
+pub(crate) fn row_element(
+    alloc: Global,
+    notes: &mut Notes,
+    at: Pos,
+    declared: Option<Declaration>,
+    row: Checked,
+    column: Checked,
+) -> Result<Checked, AllocError>
+    ensures notes { OnOk result
+        (noted_in notes.new ≡ with_failures (noted_in notes.old) (forms.row_element_failures at declared)) }
+    ensures known { IfOk result (λ c. known_of c ≡ forms.known_row_element declared (known_of row) (known_of column)) }
+{
+    notes.fail_if(!is_object(declared), Rule::Undeclared, at);
+    notes.fail_if(true, Rule::Array, at);
+    let mut mentions = Mentions::of_name(alloc, declared)?;
+    mentions.join(&row.mentions)?;
+    mentions.join(&column.mentions)?;
+    Ok(Checked {
+        typing: Typing::Unknown,
+        target: None,
+        mentions,
+        tree: None,
+    })
+}
+
 fn number(alloc: Global, int_type: IntType, number: i128) -> Result<Checked, AllocError>
     ensures { IfOk result (λ c. known_of c ≡ forms.known_constant int_type number) }
 {

@@ -42,6 +42,16 @@ unfolding expression_tree
 expression-returns-in_ok-index-in-Index-clause-known t c =
     IfOk-weaker c.element.result _ _ (λ v h. arm.element_known (names_in (scoping_of c.args.scope.now)) _ _ _ _ _ _ _ _ (one_part (ast.index c.in-Index.x c.in-Index.at) _ _ _ (ap expression_tree c.in-Index.is) c.deref.ensures) c.lookup-in-Index.ensures c.in_ok-index-in-Index.ensures.known h) c.element.ensures.known
 
+pub expression-returns-in_ok-second-in-Element-clause-notes : goal.expression-returns-in_ok-second-in-Element-clause-notes
+unfolding expression_tree
+expression-returns-in_ok-second-in-Element-clause-notes t c =
+    on_ok_weaker c.row_element.result (arm.row_element_notes (names_in (scoping_of c.args.scope.now)) _ _ _ _ _ _ _ _ _ _ _ (two_parts (λ a b. ast.element c.in-Element.x c.in-Element.at a c.in-Element.column_at b) _ _ _ _ _ (ap expression_tree c.in-Element.is) c.deref-in-Element.ensures c.deref-in-Element-2.ensures) c.lookup-in-Element.ensures c.in_ok-first-in-Element.ensures.notes c.in_ok-second-in-Element.ensures.notes) c.row_element.ensures.notes
+
+pub expression-returns-in_ok-second-in-Element-clause-known : goal.expression-returns-in_ok-second-in-Element-clause-known
+unfolding expression_tree
+expression-returns-in_ok-second-in-Element-clause-known t c =
+    IfOk-weaker c.row_element.result _ _ (λ v h. arm.row_element_known (names_in (scoping_of c.args.scope.now)) _ _ _ _ _ _ _ _ _ (known_of v) _ _ (two_parts (λ a b. ast.element c.in-Element.x c.in-Element.at a c.in-Element.column_at b) _ _ _ _ _ (ap expression_tree c.in-Element.is) c.deref-in-Element.ensures c.deref-in-Element-2.ensures) c.lookup-in-Element.ensures c.in_ok-first-in-Element.ensures.known c.in_ok-second-in-Element.ensures.known h) c.row_element.ensures.known
+
 pub expression-returns-in-Constant-clause-notes : goal.expression-returns-in-Constant-clause-notes
 unfolding expression_tree
 expression-returns-in-Constant-clause-notes t c =
