@@ -11,8 +11,8 @@ use Rattle.pk_grammar.specs.declared.signs.Fixed.TheVariants as fixed
 use Rattle.pk_grammar.specs.Languages.{Marked, Optional, ◌⊙◌}
 use Rattle.pk_grammar.specs.Grammar.{AllFit, Fits, Items, spelled, spelled_list, spelled_more, punctuator, initializer_item, more_initializer_items}
 use Rattle.pk_grammar.specs.Machine.Signs.{is_fixed}
-use Rattle.pk_grammar.specs.Machine.States.{Naming, Initializing, Initialized, as_item, as_row_item, as_whole, State, operand, complete, at_initializer_item, at_row_item, after_row, after_initializer}
-use Rattle.pk_grammar.specs.Machine.Steps.{taken, reduced, one_more, first_item, more_items, initializing_nesting, naming_nesting, with_initializer, with_item, after_item, next_item, close_initializer, close_row, end_row, step}
+use Rattle.pk_grammar.specs.Machine.States.{Naming, Initializing, Initialized, as_item, as_row_item, as_whole, State, operand, complete, at_initializer_item, at_row_item, after_item, after_initializer}
+use Rattle.pk_grammar.specs.Machine.Steps.{taken, reduced, one_more, first_item, more_items, initializing_nesting, naming_nesting, with_initializer, with_item, at_item_end, next_item, close_initializer, close_row, end_row, step}
 use Rattle.pk_grammar.proofs.CompleteLists.{tokens_of, Reads, reads_one, reads_head, reads_sign, reads_last, reads_join_none}
 use Rattle.pk_grammar.proofs.CompleteSigns.{Begins}
 use Rattle.pk_grammar.proofs.CompleteOperands.{IsAt, same_false}
@@ -24,14 +24,14 @@ use Rattle.pk_grammar.proofs.CompleteEnumerations.{EndsItem, item_ends}
 pub step_item : (d : Initializing) (t : Token) → Begins t.kind → step (at_initializer_item d) t ≡ step (operand (initializing_nesting d) (as_whole (as_item d))) t
 step_item d t b = same_false (is_fixed fixed.OpenBrace t.kind) _ _ b.no_open_brace ∙ same_false (is_fixed fixed.CloseBrace t.kind) _ _ b.no_close_brace
 
-pub step_item_ends : (n : ℕ) (e : ExpressionTree) (d : Initializing) (t : Token) → EndsItem t → step (complete n e (as_whole (as_item d))) t ≡ after_item (with_item d (item_value e)) t
+pub step_item_ends : (n : ℕ) (e : ExpressionTree) (d : Initializing) (t : Token) → EndsItem t → step (complete n e (as_whole (as_item d))) t ≡ at_item_end (with_item d (item_value e)) t
 unfolding reduced
 step_item_ends n e d t h = elim h [ inl e ↦ rw e | inr e ↦ rw e ]
 
-pub step_next_item : (d : Initialized) (t : Token) → t.kind ≡ kind.Punctuator mark.Comma → after_item d t ≡ next_item d
+pub step_next_item : (d : Initialized) (t : Token) → t.kind ≡ kind.Punctuator mark.Comma → at_item_end d t ≡ next_item d
 step_next_item d t e = rw e
 
-pub step_close_initializer : (d : Initialized) (t : Token) → t.kind ≡ kind.Punctuator mark.CloseBrace → after_item d t ≡ close_initializer d
+pub step_close_initializer : (d : Initialized) (t : Token) → t.kind ≡ kind.Punctuator mark.CloseBrace → at_item_end d t ≡ close_initializer d
 step_close_initializer d t e = rw e
 
 -- the `}` behind a comma
@@ -114,7 +114,7 @@ reads_values e es d at t rest ms h ends =
 reads_row_end : (e : ExpressionTree) (es : ExpressionTrees) (d : Initializing) (at : Pos) (ts front back : List Marked) (rest : List Token) → ts ≡ front ++ back →
     (c : (Optional (punctuator mark.Comma) ⊙ punctuator mark.CloseBrace) (initializing_nesting d) back) →
     ((t : Token) (rest : List Token) → EndsItem t → ReadsRow (at_row_item d at no_expressions) front t rest d at (expression_then e es)) →
-    Reads (at_row_item d at no_expressions) ts (after_row (with_item d (item_row at e es))) rest
+    Reads (at_row_item d at no_expressions) ts (after_item (with_item d (item_row at e es))) rest
 reads_row_end e es d at ts front back rest cut c values = elim c.first [
   | inl none ↦
       let r = values c.second.token rest (inr c.second.holds) in
@@ -128,7 +128,7 @@ reads_row_end e es d at ts front back rest cut c values = elim c.first [
 -- Items are read
 
 reads_item : (i : InitializerItemTree) (d : Initializing) (t : Token) (rest : List Token) → EndsItem t → (ms : List Marked) → initializer_item i (initializing_nesting d) ms →
-    ReadsTo (at_initializer_item d) ms t rest (after_item (with_item d i) t)
+    ReadsTo (at_initializer_item d) ms t rest (at_item_end (with_item d i) t)
 reads_item (item_value e) d t rest ends ms h =
     let n : ℕ = initializing_nesting d in
     record {
@@ -139,7 +139,7 @@ reads_item (item_value e) d t rest ends ms h =
 reads_item (item_row at e es) d t rest ends ms h =
     let g = h.second in
     record {
-      state = after_row (with_item d (item_row at e es));
+      state = after_item (with_item d (item_row at e es));
       reads = reads_head h (step_row d h.first.token at h.first.holds)
           (reads_row_end e es d at h.back g.front g.back (t ∷ rest) g.cut g.second (λ t rest ends. reads_values e es d at t rest g.front g.first ends));
       then = refl;
@@ -150,13 +150,13 @@ abbrev and_more : Initializing → InitializerItemTree → List InitializerItemT
 and_more d i more = record { naming = d.naming; brace = d.brace; items = record { first = (ended d.items i).first; more = (ended d.items i).more ++ more } }
 
 reads_items : (more : List InitializerItemTree) (i : InitializerItemTree) (d : Initializing) (t : Token) (rest : List Token) (ms : List Marked) →
-    (initializer_item i ⊙ more_initializer_items more) (initializing_nesting d) ms → EndsItem t → ReadsTo (at_initializer_item d) ms t rest (after_item (and_more d i more) t)
+    (initializer_item i ⊙ more_initializer_items more) (initializing_nesting d) ms → EndsItem t → ReadsTo (at_initializer_item d) ms t rest (at_item_end (and_more d i more) t)
 reads_items [] i d t rest ms h ends =
     let r = reads_item i d t rest ends ms (drop_last h) in
     record {
       state = r.state;
       reads = r.reads;
-      then = r.then ∙ ap (λ more. after_item (record { naming = d.naming; brace = d.brace; items = record { first = (ended d.items i).first; more = more } }) t) (sym (append-nil (ended d.items i).more));
+      then = r.then ∙ ap (λ more. at_item_end (record { naming = d.naming; brace = d.brace; items = record { first = (ended d.items i).first; more = more } }) t) (sym (append-nil (ended d.items i).more));
     }
 reads_items (j ∷ more) i d t rest ms h ends =
     let g = h.second in
@@ -167,7 +167,7 @@ reads_items (j ∷ more) i d t rest ms h ends =
     record {
       state = m.state;
       reads = reads_sign h.front h.cut g r.reads (r.then ∙ step_next_item (with_item d i) k g.first.holds) m.reads;
-      then = m.then ∙ ap (λ more. after_item (record { naming = d.naming; brace = d.brace; items = record { first = all.first; more = more } }) t) (append_assoc all.more (j ∷ []) more);
+      then = m.then ∙ ap (λ more. at_item_end (record { naming = d.naming; brace = d.brace; items = record { first = all.first; more = more } }) t) (append_assoc all.more (j ∷ []) more);
     }
 
 -- behind the `{` items, a comma or none, and the brace

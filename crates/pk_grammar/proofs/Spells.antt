@@ -8,7 +8,7 @@ use Rattle.pk_grammar.specs.declared.signs.Fixed.TheVariants as fixed
 use Rattle.pk_grammar.specs.Languages.{Marked}
 use Rattle.pk_grammar.specs.Grammar.{statement, externals, text}
 use Rattle.pk_grammar.specs.Machine.Signs.{specifier_word}
-use Rattle.pk_grammar.specs.Machine.States.{as_first, as_second, as_third, as_result, as_value, as_item, as_row_item, as_whole, State, top, after_storage, after_typedef, type_specifiers, after_type_name, type_name_comma, at_enumerator, after_enumerator_name, after_braces, after_specifiers, after_name, after_length, after_columns, after_assign, at_initializer_item, at_row_item, after_row, after_initializer, after_comma, parameters_open, parameter_specifiers, parameter_name, parameter_comma, parameters_closed, block_item, after_static, at_statement, after_statement, test_open, do_open, for_open, for_first, for_second, for_third, default_colon, goto_name, returning, statement_end, operand, named, indexed, arguments, opened, cast_specifiers, complete}
+use Rattle.pk_grammar.specs.Machine.States.{as_first, as_second, as_third, as_result, as_value, as_item, as_row_item, as_whole, State, top, after_storage, after_typedef, type_specifiers, after_type_name, type_name_comma, at_enumerator, after_enumerator_name, after_braces, after_specifiers, after_name, after_length, after_columns, after_assign, at_initializer_item, at_row_item, after_item, after_initializer, after_comma, parameters_open, parameter_specifiers, parameter_name, parameter_comma, parameters_closed, block_item, after_static, at_statement, after_statement, test_open, do_open, for_open, for_first, for_second, for_third, default_colon, goto_name, returning, statement_end, operand, named, indexed, arguments, opened, cast_specifiers, complete}
 use Rattle.pk_grammar.specs.Machine.Steps.{Verdict, taken, refused, finished, naming_nesting, initializing_nesting, begin_for, step}
 use Rattle.pk_grammar.proofs.SpellsSigns.{IsSpecifier, is_specifier}
 use Rattle.pk_grammar.proofs.SpellsWords.{push, push_at, push_last, none_more, gather, last_as, moved}
@@ -16,7 +16,7 @@ use Rattle.pk_grammar.proofs.SpellsLists.{first_word}
 use Rattle.pk_grammar.proofs.SpellsStates.{Spells}
 use Rattle.pk_grammar.proofs.SpellsGood.{Good, fixed_good, wanted_good, two}
 use Rattle.pk_grammar.proofs.SpellsEnumerations.{at_next_enumerator_good, at_enumerator_name_good}
-use Rattle.pk_grammar.proofs.SpellsDeclarations.{at_after_braces_good, after_declarator_good, more_specifiers_good, at_after_dimensions_good, at_after_name_good, at_after_length_good, at_next_item_good, at_next_row_item_good, after_item_good}
+use Rattle.pk_grammar.proofs.SpellsDeclarations.{at_after_braces_good, after_declarator_good, more_specifiers_good, at_after_dimensions_good, at_after_name_good, at_after_length_good, at_next_item_good, at_next_row_item_good, at_item_end_good}
 use Rattle.pk_grammar.proofs.SpellsPurposes.{for_ends}
 use Rattle.pk_grammar.proofs.SpellsOperands.{at_operand_good, at_complete_good, at_named_good, at_indexed_good, at_arguments_good, at_opened_good, more_cast_good}
 use Rattle.pk_grammar.proofs.SpellsStatements.{begins_statement_good, at_items_good, begin_static_good, resume_good}
@@ -42,7 +42,7 @@ step_good (after_assign d) t ms h =
     fixed_good fixed.OpenBrace _ _ t ms (λ k. none_more (naming_nesting d) (push ms t h (k, refl))) (at_operand_good (naming_nesting d) (as_whole (as_value d)) t ms refl h)
 step_good (at_initializer_item d) t ms h = at_next_item_good d t ms h (at_operand_good (initializing_nesting d) (as_whole (as_item d)) t ms refl h)
 step_good (at_row_item d at es) t ms h = at_next_row_item_good d at es t ms h (at_operand_good (initializing_nesting d) (as_whole (as_row_item d at es)) t ms refl h)
-step_good (after_row d) t ms h = after_item_good d t ms h
+step_good (after_item d) t ms h = at_item_end_good d t ms h
 step_good (after_initializer d) t ms h = after_declarator_good d t ms h
 step_good (after_comma d) t ms h = wanted_good fixed.Name _ t ms (λ k. push ms t h (k, refl))
 step_good (parameters_open g) t ms h =

@@ -13,7 +13,7 @@ use Rattle.pk_grammar.specs.declared.signs.Fixed.TheVariants as fixed
 use Rattle.pk_grammar.specs.Languages.{Marked, Optional, Identified}
 use Rattle.pk_grammar.specs.Grammar.{Items, type_words, initializer, initializer_item, declarators, declared, punctuator, punctuator_at}
 use Rattle.pk_grammar.specs.Machine.States.{function_block, inner_block, Site, in_a_block, in_a_for, outside, EnumerationSite, in_declaration, in_typedef, Declaring, Declared, Naming, Initializing, Initialized, as_item, as_row_item, as_whole}
-use Rattle.pk_grammar.specs.Machine.Steps.{taken, specifier_at, enumeration_nesting, declared_at, whole_declaration, first_name, end_alone, alone, behind_braces, at_after_braces, more_specifiers, with_dimensions, without_dimensions, open_parameters, at_after_dimensions, at_after_name, at_after_length, site_nesting, naming_nesting, initializing_nesting, with_initializer, with_item, after_item, next_item, close_initializer, close_row, end_items, end_row, at_next_item, at_next_row_item, at_operand, end_declaration, next_declarator, after_declarator, next_word}
+use Rattle.pk_grammar.specs.Machine.Steps.{taken, specifier_at, enumeration_nesting, declared_at, whole_declaration, first_name, end_alone, alone, behind_braces, at_after_braces, more_specifiers, with_dimensions, without_dimensions, open_parameters, at_after_dimensions, at_after_name, at_after_length, site_nesting, naming_nesting, initializing_nesting, with_initializer, with_item, at_item_end, next_item, close_initializer, close_row, end_items, end_row, at_next_item, at_next_row_item, at_operand, end_declaration, next_declarator, after_declarator, next_word}
 use Rattle.pk_grammar.proofs.SpellsSigns.{IsNext, is_next}
 use Rattle.pk_grammar.proofs.SpellsWords.{and_none, drop_none, ◌▹◌, push, none_more, not_there, gather, spread, together, last_as, before_as, moved}
 use Rattle.pk_grammar.proofs.SpellsLists.{one_more_word, whole_at, declarators_end, declarators_comma, values_before_end, items_end, items_comma, items_before_end, items_declaration, externals_end}
@@ -63,8 +63,8 @@ close_initializer_good d t ms k h = initializer_ends d t ms k (not_there (punctu
 pub next_item_good : (d : Initialized) (t : Token) (ms : List Marked) → t.kind ≡ kind.Punctuator mark.Comma → to_items_end d ms → Good (next_item d) t ms
 next_item_good d t ms k h = last_as (λ ts f. items_comma d.items _ ts f) (gather (push ms t h k))
 
-pub after_item_good : (d : Initialized) (t : Token) (ms : List Marked) → to_items_end d ms → Good (after_item d t) t ms
-after_item_good d t ms h = fixed_good fixed.Comma _ _ t ms (λ k. next_item_good d t ms k h) (wanted_good fixed.CloseBrace _ t ms (λ k. close_initializer_good d t ms k h))
+pub at_item_end_good : (d : Initialized) (t : Token) (ms : List Marked) → to_items_end d ms → Good (at_item_end d t) t ms
+at_item_end_good d t ms h = fixed_good fixed.Comma _ _ t ms (λ k. next_item_good d t ms k h) (wanted_good fixed.CloseBrace _ t ms (λ k. close_initializer_good d t ms k h))
 
 -- an item is one more
 pub one_item : (d : Initializing) (i : InitializerItemTree) (ms : List Marked) → (to_next_item d ▹ initializer_item i (initializing_nesting d)) ms → to_items_end (with_item d i) ms

@@ -17,7 +17,7 @@ use Rattle.pk_grammar.specs.declared.signs.Operator.TheVariants as operator
 use Rattle.pk_grammar.specs.Languages.{identifier_of}
 use Rattle.pk_grammar.specs.Grammar.{any_expression, strength}
 use Rattle.pk_grammar.specs.Machine.Signs.{is_fixed, operator_of}
-use Rattle.pk_grammar.specs.Machine.States.{Head, OpenBlock, function_block, inner_block, Outer, in_block, in_label, in_case, in_default, in_if, in_else, in_switch, in_while, in_do, in_for, Site, in_a_block, in_a_for, outside, EnumerationSite, in_declaration, in_typedef, Declared, Initialized, Purpose, as_statement, as_label, as_test, as_last_test, as_first, as_second, as_third, as_result, as_length, as_columns, as_value, as_item, as_row_item, as_enumerator, Context, as_whole, in_parentheses, in_index, in_column, in_call, in_prefix, in_unary, in_cast, in_binary, in_choice, in_alternative, in_assignment, in_comma, State, top, after_storage, after_typedef, type_specifiers, after_type_name, type_name_comma, at_enumerator, after_enumerator_name, after_braces, after_specifiers, after_name, after_length, after_columns, after_assign, at_initializer_item, at_row_item, after_row, after_initializer, after_comma, parameters_open, parameter_specifiers, parameter_name, parameter_comma, parameters_closed, block_item, after_static, at_statement, after_statement, test_open, do_open, for_open, for_first, for_second, for_third, default_colon, goto_name, returning, statement_end, operand, named, indexed, arguments, opened, cast_specifiers, complete}
+use Rattle.pk_grammar.specs.Machine.States.{Head, OpenBlock, function_block, inner_block, Outer, in_block, in_label, in_case, in_default, in_if, in_else, in_switch, in_while, in_do, in_for, Site, in_a_block, in_a_for, outside, EnumerationSite, in_declaration, in_typedef, Declared, Initialized, Purpose, as_statement, as_label, as_test, as_last_test, as_first, as_second, as_third, as_result, as_length, as_columns, as_value, as_item, as_row_item, as_enumerator, Context, as_whole, in_parentheses, in_index, in_column, in_call, in_prefix, in_unary, in_cast, in_binary, in_choice, in_alternative, in_assignment, in_comma, State, top, after_storage, after_typedef, type_specifiers, after_type_name, type_name_comma, at_enumerator, after_enumerator_name, after_braces, after_specifiers, after_name, after_length, after_columns, after_assign, at_initializer_item, at_row_item, after_item, after_initializer, after_comma, parameters_open, parameter_specifiers, parameter_name, parameter_comma, parameters_closed, block_item, after_static, at_statement, after_statement, test_open, do_open, for_open, for_first, for_second, for_third, default_colon, goto_name, returning, statement_end, operand, named, indexed, arguments, opened, cast_specifiers, complete}
 use Rattle.pk_grammar.specs.Machine.Steps.{Verdict, taken, finished, Reduced, reduced, end_expression, end_purpose, go_on, resume, step, end_declaration, site_nesting, specifier_at, next_word, end_in_enum}
 use Rattle.pk_grammar.proofs.WordLemmas.{next_tag, tag_is_last, no_name}
 use Rattle.pk_grammar.proofs.CompleteOperands.{step_more_cast, step_cast_end}
@@ -98,8 +98,8 @@ ends_declaration d = go d d.site
 ends_initializer : (n : ℕ) (d : Declared) → Ends (taken n (after_initializer d))
 ends_initializer n d = goes semicolon (ends_declaration d)
 
-ends_row : (n : ℕ) (d : Initialized) → Ends (taken n (after_row d))
-ends_row n d = goes (sign mark.CloseBrace) (ends_initializer _ _)
+ends_items : (n : ℕ) (d : Initialized) → Ends (taken n (after_item d))
+ends_items n d = goes (sign mark.CloseBrace) (ends_initializer _ _)
 
 -- behind the braces of an enumeration
 ends_braces : (n : ℕ) (s : EnumerationSite) (specs : OneOrMore Specifier) (e : EnumerationTree) → Ends (taken n (after_braces s specs e))
@@ -128,7 +128,7 @@ ends_purpose (as_columns d id l) e = record { token = sign mark.CloseBracket; no
 ends_purpose (as_value d) e = record { token = semicolon; no_operator = refl; ends = ends_declaration _ }
 ends_purpose (as_enumerator d id) e = record { token = sign mark.CloseBrace; no_operator = refl; ends = ends_braces _ d.site _ _ }
 ends_purpose (as_item d) e = record { token = sign mark.CloseBrace; no_operator = refl; ends = ends_initializer _ _ }
-ends_purpose (as_row_item d at es) e = record { token = sign mark.CloseBrace; no_operator = refl; ends = ends_row _ _ }
+ends_purpose (as_row_item d at es) e = record { token = sign mark.CloseBrace; no_operator = refl; ends = ends_items _ _ }
 
 zero_le : (n : ℕ) → nat_le 0 n ≡ true
 zero_le n = search rules
@@ -206,7 +206,7 @@ state_ends n (after_columns d) = goes semicolon (ends_declaration _)
 state_ends n (after_assign d) = goes a_character (ends_complete _ _ _ _ (ends_context _ _ _))
 state_ends n (at_initializer_item d) = goes a_character (ends_complete _ _ _ _ (ends_context _ _ _))
 state_ends n (at_row_item d at es) = goes a_character (ends_complete _ _ _ _ (ends_context _ _ _))
-state_ends n (after_row d) = ends_row n d
+state_ends n (after_item d) = ends_items n d
 state_ends n (after_initializer d) = ends_initializer n d
 state_ends n (after_comma d) = goes a_name (goes semicolon (ends_declaration _))
 state_ends n (parameters_open h) = goes (sign mark.CloseParenthesis) (goes semicolon (the_end _))

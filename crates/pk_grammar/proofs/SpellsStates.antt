@@ -9,7 +9,7 @@ use Rattle.pk_ast.specs.declared.expressions.Identifier.{Identifier}
 use Rattle.pk_ast.specs.Trees.{OneOrMore, ExpressionTree, ExpressionTrees, no_expressions, expression_then, InitializerItemTree, index, DeclaratorTree, EnumeratorTree, EnumerationTree, StatementTree, ForStartTree, ParameterTree, ExternalTree}
 use Rattle.pk_grammar.specs.Languages.{Marked, Language, Nothing, Identified, ◌⊙◌, Where}
 use Rattle.pk_grammar.specs.Grammar.{binary_sign, unary_sign, step_sign, assignment_sign, punctuator_at, punctuator, keyword_at, keyword, any_expression, assignment_expression, conditional_expression, strength, weakest_operator, cast_expression, unary_expression, postfix_expression, Fits, AllFit, operators_in, commas_in, AreBeforeBraces, all_of, words, specifiers, spelled, optional, enumerator, enumerators, type_words, array_length, dimensions, initializer_item, initializer_items, declarator, declarators, OpenEnd, test, optional_static, for_start, statement, block_items, stored, parameter, IsVoidAlone, parameters, names, externals}
-use Rattle.pk_grammar.specs.Machine.States.{Head, OpenBlock, function_block, inner_block, Outer, in_block, in_label, in_case, in_default, in_if, in_else, in_switch, in_while, in_do, in_for, Site, in_a_block, in_a_for, outside, Declaring, Declared, EnumerationSite, in_declaration, in_typedef, Enumerating, Enumerated, Naming, Initializing, Initialized, Purpose, as_statement, as_label, as_test, as_last_test, as_first, as_second, as_third, as_result, as_length, as_columns, as_value, as_item, as_row_item, as_enumerator, Context, as_whole, in_parentheses, in_index, in_column, in_call, in_prefix, in_unary, in_cast, in_binary, in_choice, in_alternative, in_assignment, in_comma, State, top, after_storage, after_typedef, type_specifiers, after_type_name, type_name_comma, at_enumerator, after_enumerator_name, after_braces, after_specifiers, after_name, after_length, after_columns, after_assign, at_initializer_item, at_row_item, after_row, after_initializer, after_comma, parameters_open, parameter_specifiers, parameter_name, parameter_comma, parameters_closed, block_item, after_static, at_statement, after_statement, test_open, do_open, for_open, for_first, for_second, for_third, default_colon, goto_name, returning, statement_end, operand, named, indexed, arguments, opened, cast_specifiers, complete}
+use Rattle.pk_grammar.specs.Machine.States.{Head, OpenBlock, function_block, inner_block, Outer, in_block, in_label, in_case, in_default, in_if, in_else, in_switch, in_while, in_do, in_for, Site, in_a_block, in_a_for, outside, Declaring, Declared, EnumerationSite, in_declaration, in_typedef, Enumerating, Enumerated, Naming, Initializing, Initialized, Purpose, as_statement, as_label, as_test, as_last_test, as_first, as_second, as_third, as_result, as_length, as_columns, as_value, as_item, as_row_item, as_enumerator, Context, as_whole, in_parentheses, in_index, in_column, in_call, in_prefix, in_unary, in_cast, in_binary, in_choice, in_alternative, in_assignment, in_comma, State, top, after_storage, after_typedef, type_specifiers, after_type_name, type_name_comma, at_enumerator, after_enumerator_name, after_braces, after_specifiers, after_name, after_length, after_columns, after_assign, at_initializer_item, at_row_item, after_item, after_initializer, after_comma, parameters_open, parameter_specifiers, parameter_name, parameter_comma, parameters_closed, block_item, after_static, at_statement, after_statement, test_open, do_open, for_open, for_first, for_second, for_third, default_colon, goto_name, returning, statement_end, operand, named, indexed, arguments, opened, cast_specifiers, complete}
 use Rattle.pk_grammar.specs.Machine.Steps.{block_nesting, site_nesting, naming_nesting, initializing_nesting, enumeration_nesting, enumerating_nesting, operand_level}
 use Rattle.pk_grammar.proofs.WordLemmas.{AreShaped}
 use Rattle.pk_grammar.proofs.SpellsSigns.{testing_keyword}
@@ -287,7 +287,7 @@ Spells (after_columns d) = to_initializer d
 Spells (after_assign d) = to_value d
 Spells (at_initializer_item d) = to_next_item d
 Spells (at_row_item d at es) = to_row_item d at es
-Spells (after_row d) = to_items_end d
+Spells (after_item d) = to_items_end d
 Spells (after_initializer d) = to_declarator_end d
 Spells (after_comma d) = to_declarator d
 Spells (parameters_open h) = to_parameters h ▹ punctuator mark.OpenParenthesis 1

@@ -80,7 +80,7 @@ pub record Naming : Type 0 where
   pub name : Identifier
   pub dimensions : Option DimensionsTree
 
--- an initialiser's braces, and the items read so far, behind which another one is to come
+-- an initializer's braces, and the items read so far, behind which another one is to come
 pub record Initializing : Type 0 where
   pub naming : Naming
   pub brace : Pos
@@ -144,10 +144,10 @@ pub data State : Type 0 where
   after_length : Declaring → Identifier → ExpressionTree → State
   after_columns : Naming → State
   after_assign : Naming → State
-  -- in an initialiser's braces where an item may come, in a row's where a value may, and behind a row
+  -- in an initializer's braces where an item may come, in a row's where a value may, and behind an item
   at_initializer_item : Initializing → State
   at_row_item : Initializing → Pos → ExpressionTrees → State
-  after_row : Initialized → State
+  after_item : Initialized → State
   after_initializer : Declared → State
   after_comma : Declaring → State
   -- in a function's head

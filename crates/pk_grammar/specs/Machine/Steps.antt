@@ -25,7 +25,7 @@ use Rattle.pk_grammar.specs.declared.signs.StatementStart.TheVariants as first
 use Rattle.pk_grammar.specs.Languages.{identifier_of}
 use Rattle.pk_grammar.specs.Grammar.{all_of, any_expression, assignment_expression, conditional_expression, strength, weakest_operator, cast_expression, unary_expression, operators_in, postfixes_in, commas_in}
 use Rattle.pk_grammar.specs.Machine.Signs.{is_fixed, operand_start, operator_of, specifier_word, follows, following_word, shape_of, wants_tag, takes_braces, storage_word, statement_start, is_void_word}
-use Rattle.pk_grammar.specs.Machine.States.{Head, OpenBlock, function_block, inner_block, Outer, in_block, in_label, in_case, in_default, in_if, in_else, in_switch, in_while, in_do, in_for, Site, in_a_block, in_a_for, outside, Declaring, Declared, Naming, Initializing, Initialized, EnumerationSite, in_declaration, in_typedef, Enumerating, Enumerated, Purpose, as_statement, as_label, as_test, as_last_test, as_first, as_second, as_third, as_result, as_length, as_columns, as_value, as_item, as_row_item, as_enumerator, Context, as_whole, in_parentheses, in_index, in_column, in_call, in_prefix, in_unary, in_cast, in_binary, in_choice, in_alternative, in_assignment, in_comma, State, top, after_storage, after_typedef, type_specifiers, after_type_name, type_name_comma, at_enumerator, after_enumerator_name, after_braces, after_specifiers, after_name, after_length, after_columns, after_assign, at_initializer_item, at_row_item, after_row, after_initializer, after_comma, parameters_open, parameter_specifiers, parameter_name, parameter_comma, parameters_closed, block_item, after_static, at_statement, after_statement, test_open, do_open, for_open, for_first, for_second, for_third, default_colon, goto_name, returning, statement_end, operand, named, indexed, arguments, opened, cast_specifiers, complete}
+use Rattle.pk_grammar.specs.Machine.States.{Head, OpenBlock, function_block, inner_block, Outer, in_block, in_label, in_case, in_default, in_if, in_else, in_switch, in_while, in_do, in_for, Site, in_a_block, in_a_for, outside, Declaring, Declared, Naming, Initializing, Initialized, EnumerationSite, in_declaration, in_typedef, Enumerating, Enumerated, Purpose, as_statement, as_label, as_test, as_last_test, as_first, as_second, as_third, as_result, as_length, as_columns, as_value, as_item, as_row_item, as_enumerator, Context, as_whole, in_parentheses, in_index, in_column, in_call, in_prefix, in_unary, in_cast, in_binary, in_choice, in_alternative, in_assignment, in_comma, State, top, after_storage, after_typedef, type_specifiers, after_type_name, type_name_comma, at_enumerator, after_enumerator_name, after_braces, after_specifiers, after_name, after_length, after_columns, after_assign, at_initializer_item, at_row_item, after_item, after_initializer, after_comma, parameters_open, parameter_specifiers, parameter_name, parameter_comma, parameters_closed, block_item, after_static, at_statement, after_statement, test_open, do_open, for_open, for_first, for_second, for_third, default_colon, goto_name, returning, statement_end, operand, named, indexed, arguments, opened, cast_specifiers, complete}
 
 -- what becomes of a state at a token: it is taken, nested so deep; or refused; or it is the end of a text
 pub data Verdict : Type 0 where
@@ -239,7 +239,7 @@ with_dimensions d id l = record { declaring = d; name = id; dimensions = Some l 
 abbrev pub naming_nesting : Naming → ℕ
 naming_nesting d = site_nesting d.declaring.site
 
--- Items of an initialiser's braces
+-- Items of an initializer's braces
 
 abbrev pub initializing_nesting : Initializing → ℕ
 initializing_nesting d = naming_nesting d.naming
@@ -262,12 +262,12 @@ next_item d =
     }))
 
 -- after an item: a comma, or the `}`
-abbrev pub after_item : Initialized → Token → Verdict
-after_item d t = if is_fixed fixed.Comma t.kind then next_item d else wanted fixed.CloseBrace t (close_initializer d)
+abbrev pub at_item_end : Initialized → Token → Verdict
+at_item_end d t = if is_fixed fixed.Comma t.kind then next_item d else wanted fixed.CloseBrace t (close_initializer d)
 
 -- behind the `}` of a row
 abbrev pub close_row : Initializing → Pos → ExpressionTree → ExpressionTrees → Verdict
-close_row d at e es = taken (initializing_nesting d) (after_row (with_item d (item_row at e es)))
+close_row d at e es = taken (initializing_nesting d) (after_item (with_item d (item_row at e es)))
 
 -- Enumerations
 
@@ -755,7 +755,7 @@ step (after_columns d) t = at_after_dimensions d t
 step (after_assign d) t = at_after_assign d t
 step (at_initializer_item d) t = at_next_item d t
 step (at_row_item d at es) t = at_next_row_item d at es t
-step (after_row d) t = after_item d t
+step (after_item d) t = at_item_end d t
 step (after_initializer d) t = after_declarator d t
 step (after_comma d) t = wanted fixed.Name t (taken (site_nesting d.site) (after_name d (identifier_of t)))
 step (parameters_open h) t =
