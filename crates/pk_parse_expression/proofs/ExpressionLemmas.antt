@@ -19,7 +19,7 @@ use Rattle.pk_grammar.specs.declared.signs.OperandStart.TheVariants as start
 use Rattle.pk_grammar.specs.declared.signs.Operator.TheVariants as operator
 use Rattle.pk_grammar.specs.Grammar.{strength, operators_in, commas_in}
 use Rattle.pk_grammar.specs.Machine.Signs.{is_fixed, operand_start}
-use Rattle.pk_grammar.specs.Machine.States.{Context, in_index, in_prefix, in_unary, in_cast, in_binary, in_choice, in_alternative, in_assignment, in_comma, operand, named, cast_specifiers, complete}
+use Rattle.pk_grammar.specs.Machine.States.{Context, in_index, in_column, in_prefix, in_unary, in_cast, in_binary, in_choice, in_alternative, in_assignment, in_comma, operand, named, indexed, cast_specifiers, complete}
 use Rattle.pk_grammar.specs.Machine.Steps.{operand_level, is_unary, one_more, end_in_enum}
 use Rattle.pk_grammar.specs.Machine.Running.{first_of_all, run}
 use Rattle.pk_parse_expression.specs.Parsing.{Begins, BeginsWith, past_words, AreWords, AreNoType, EndsAt, CastsIf, Anywhere, UpTo, Reads, Refuses, specifiers_from}
@@ -27,7 +27,7 @@ use Rattle.pk_grammar.proofs.CompleteSigns.{strength_most}
 use Rattle.pk_parse_expression.proofs.RunLemmas.{fails_as, fails_syntax, fails_nesting, fails_memory}
 use Rattle.pk_parse_expression.proofs.RunOperators.{run_binary, deep_binary, run_question, run_assignment}
 use Rattle.pk_parse_expression.proofs.RunEnds.{run_prefix_end, run_unary_end, run_cast_end, run_binary_end, run_conditional_end, run_assignment_end, run_comma_end}
-use Rattle.pk_parse_expression.proofs.RunOperands.{run_index, run_colon, run_comma, run_prefix, run_unary, run_cast_words, no_word_more, no_word_left, run_cast_close, no_cast_close, no_cast_type}
+use Rattle.pk_parse_expression.proofs.RunOperands.{run_index, run_column, run_colon, run_comma, run_prefix, run_unary, run_cast_words, no_word_more, no_word_left, run_cast_close, no_cast_close, no_cast_type}
 
 pub trees_push : (es : List Expression) (e : Expression) → expression_trees (es ++ e ∷ []) ≡ one_more (expression_trees es) (expression_tree e)
 trees_push [] e = refl
@@ -50,6 +50,11 @@ pub indexes : (end : Token) (n : ℕ) (id : Identifier) (k : Context) (ts : List
     run end (named n id k) ts ≡ run end (operand inside (in_index n id t.at k)) after
 indexes end n id k ts t after inside b i h =
     run_index end n id k ts t after b (subst (λ q. q ≤ 128) i h) ∙ ap (λ q. run end (operand q (in_index n id t.at k)) after) (sym i)
+
+pub indexes_column : (end : Token) (n : ℕ) (id : Identifier) (at : Pos) (e : ExpressionTree) (k : Context) (ts : List Token) (t : Token) (after : List Token) (inside : ℕ) → Begins fixed.OpenBracket ts t after →
+    inside ≡ n + 1 → inside ≤ 128 → run end (indexed n id at e k) ts ≡ run end (operand inside (in_column n id at e t.at k)) after
+indexes_column end n id at e k ts t after inside b i h =
+    run_column end n id at e k ts t after b (subst (λ q. q ≤ 128) i h) ∙ ap (λ q. run end (operand q (in_column n id at e t.at k)) after) (sym i)
 
 module _ (end : Token) (n : ℕ) (ts : List Token) where
   -- a prefix operator and its operand

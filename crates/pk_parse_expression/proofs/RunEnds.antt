@@ -16,7 +16,7 @@ use Rattle.pk_grammar.specs.declared.signs.Operator.{Operator}
 use Rattle.pk_grammar.specs.declared.signs.Operator.TheVariants as operator
 use Rattle.pk_grammar.specs.Grammar.{strength}
 use Rattle.pk_grammar.specs.Machine.Signs.{is_fixed, operator_of}
-use Rattle.pk_grammar.specs.Machine.States.{Context, in_parentheses, in_index, in_call, in_prefix, in_unary, in_cast, in_binary, in_choice, in_alternative, in_assignment, in_comma, complete}
+use Rattle.pk_grammar.specs.Machine.States.{Context, in_parentheses, in_index, in_column, in_call, in_prefix, in_unary, in_cast, in_binary, in_choice, in_alternative, in_assignment, in_comma, complete}
 use Rattle.pk_grammar.specs.Machine.Steps.{Verdict, refused, reduced, operand_level, go_on, join_assignment, is_unary, step}
 use Rattle.pk_grammar.specs.Machine.Running.{syntax, first_of_all, run}
 use Rattle.pk_parse_expression.specs.Parsing.{follows, EndsAt}
@@ -137,6 +137,13 @@ module _ (end : Token) (n m : ℕ) (at : Pos) (e : ExpressionTree) (c : Context)
   no_bracket id h f =
       let t = first_of_all end rest in
       run_refused end _ rest (ap (λ q. go_on m e (in_index n id at c) t q) (ends_other _ h) ∙ same_false (is_fixed fixed.CloseBracket t.kind) _ _ f)
+
+  pub no_column_bracket : (id : Identifier) (d : ExpressionTree) (column_at : Pos) → EndsAt end 0 rest → is_fixed fixed.CloseBracket (first_of_all end rest).kind ≡ false →
+      run end (complete m e (in_column n id at d column_at c)) rest ≡ syntax (first_of_all end rest).at
+  unfolding reduced
+  no_column_bracket id d column_at h f =
+      let t = first_of_all end rest in
+      run_refused end _ rest (ap (λ q. go_on m e (in_column n id at d column_at c) t q) (ends_other _ h) ∙ same_false (is_fixed fixed.CloseBracket t.kind) _ _ f)
 
   pub no_colon : (d : ExpressionTree) → EndsAt end 0 rest → is_fixed fixed.Colon (first_of_all end rest).kind ≡ false → run end (complete m e (in_choice n at d c)) rest ≡ syntax (first_of_all end rest).at
   unfolding reduced

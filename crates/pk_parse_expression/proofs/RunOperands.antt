@@ -8,7 +8,7 @@ use Rattle.pk_ast.specs.declared.declarations.SpecifierWord.{SpecifierWord}
 use Rattle.pk_ast.specs.declared.expressions.Identifier.{Identifier}
 use Rattle.pk_ast.specs.declared.operators.UnaryOperator.{UnaryOperator}
 use Rattle.pk_ast.specs.declared.operators.StepOperator.{StepOperator}
-use Rattle.pk_ast.specs.Trees.{ExpressionTree, name, call, index, constant, character, parenthesized, ExpressionTrees, no_expressions, OneOrMore}
+use Rattle.pk_ast.specs.Trees.{ExpressionTree, name, call, index, element, constant, character, parenthesized, ExpressionTrees, no_expressions, OneOrMore}
 use Rattle.pk_ast.specs.Lists.{one, with_last}
 use Rattle.pk_grammar.specs.declared.signs.Fixed.TheVariants as fixed
 use Rattle.pk_grammar.specs.declared.signs.OperandStart.{OperandStart}
@@ -16,11 +16,11 @@ use Rattle.pk_grammar.specs.declared.signs.OperandStart.TheVariants as start
 use Rattle.pk_grammar.specs.Languages.{identifier_of}
 use Rattle.pk_grammar.specs.Grammar.{commas_in, all_of}
 use Rattle.pk_grammar.specs.Machine.Signs.{is_fixed, operand_start, specifier_word, shape_of, wants_tag}
-use Rattle.pk_grammar.specs.Machine.States.{Context, in_parentheses, in_index, in_call, in_prefix, in_unary, in_cast, in_choice, in_alternative, in_comma, State, operand, named, arguments, opened, cast_specifiers, complete}
+use Rattle.pk_grammar.specs.Machine.States.{Context, in_parentheses, in_index, in_column, in_call, in_prefix, in_unary, in_cast, in_choice, in_alternative, in_comma, State, operand, named, indexed, arguments, opened, cast_specifiers, complete}
 use Rattle.pk_grammar.specs.Machine.Steps.{taken, begin_operand, operand_level, open_cast, more_cast, specifier_at, next_word, end_in_enum, one_more, step}
 use Rattle.pk_grammar.specs.Machine.Running.{syntax, deep, first_of_all, run}
 use Rattle.pk_parse_expression.specs.Parsing.{Begins, BeginsWithWord, TypeWords, words, words_then, specifiers_from, past_words, AreWords}
-use Rattle.pk_grammar.proofs.CompleteOperands.{same_false, step_call, step_index, step_no_arguments, step_more_cast, step_cast_end, step_no_cast, step_colon, step_comma, step_parenthesized, step_indexed, step_called, step_argument}
+use Rattle.pk_grammar.proofs.CompleteOperands.{same_false, step_call, step_index, step_column, step_no_arguments, step_more_cast, step_cast_end, step_no_cast, step_colon, step_comma, step_parenthesized, step_indexed, step_element, step_called, step_argument}
 use Rattle.pk_grammar.proofs.SpellsSigns.{is_this}
 use Rattle.pk_parse_expression.proofs.RunLemmas.{run_takes, run_deep, run_refused, run_alike, first_is}
 
@@ -30,8 +30,13 @@ module _ (end : Token) (n m : ℕ) (at : Pos) (e : ExpressionTree) (c : Context)
   pub run_parenthesized : Begins fixed.CloseParenthesis ts t rest → n ≤ 128 → run end (complete m e (in_parentheses n at c)) ts ≡ run end (complete n (parenthesized at e) c) rest
   run_parenthesized b h = run_takes end (complete m e (in_parentheses n at c)) ts t rest _ (complete n (parenthesized at e) c) b.cut (step_parenthesized n m at e c t (is_this fixed.CloseParenthesis t.kind b.is)) h
 
-  pub run_indexed : (id : Identifier) → Begins fixed.CloseBracket ts t rest → n ≤ 128 → run end (complete m e (in_index n id at c)) ts ≡ run end (complete n (index id at e) c) rest
-  run_indexed id b h = run_takes end (complete m e (in_index n id at c)) ts t rest _ (complete n (index id at e) c) b.cut (step_indexed n m id at e c t (is_this fixed.CloseBracket t.kind b.is)) h
+  pub run_indexed : (id : Identifier) → Begins fixed.CloseBracket ts t rest → n ≤ 128 → run end (complete m e (in_index n id at c)) ts ≡ run end (indexed n id at e c) rest
+  run_indexed id b h = run_takes end (complete m e (in_index n id at c)) ts t rest _ (indexed n id at e c) b.cut (step_indexed n m id at e c t (is_this fixed.CloseBracket t.kind b.is)) h
+
+  pub run_element : (id : Identifier) (d : ExpressionTree) (column_at : Pos) → Begins fixed.CloseBracket ts t rest → n ≤ 128 →
+      run end (complete m e (in_column n id at d column_at c)) ts ≡ run end (complete n (element id at d column_at e) c) rest
+  run_element id d column_at b h =
+      run_takes end (complete m e (in_column n id at d column_at c)) ts t rest _ (complete n (element id at d column_at e) c) b.cut (step_element n m id at d column_at e c t (is_this fixed.CloseBracket t.kind b.is)) h
 
   pub run_called : (id : Identifier) (es : ExpressionTrees) → Begins fixed.CloseParenthesis ts t rest → n ≤ 128 → run end (complete m e (in_call n id es c)) ts ≡ run end (complete n (call id (one_more es e)) c) rest
   run_called id es b h = run_takes end (complete m e (in_call n id es c)) ts t rest _ (complete n (call id (one_more es e)) c) b.cut (step_called n m id es e c t (is_this fixed.CloseParenthesis t.kind b.is)) h
@@ -116,6 +121,18 @@ module _ (end : Token) (n : ℕ) (id : Identifier) (c : Context) (ts : List Toke
 
   pub run_arguments : is_fixed fixed.CloseParenthesis (first_of_all end ts).kind ≡ false → run end (arguments n id c) ts ≡ run end (operand (n + 1) (in_call n id no_expressions c)) ts
   run_arguments f = let t = first_of_all end ts in run_alike end _ _ ts (same_false (is_fixed fixed.CloseParenthesis t.kind) _ _ f)
+
+-- Behind an index
+
+module _ (end : Token) (n : ℕ) (id : Identifier) (at : Pos) (e : ExpressionTree) (c : Context) (ts : List Token) where
+  pub run_column : (t : Token) (rest : List Token) → Begins fixed.OpenBracket ts t rest → n + 1 ≤ 128 → run end (indexed n id at e c) ts ≡ run end (operand (n + 1) (in_column n id at e t.at c)) rest
+  run_column t rest b h = run_takes end (indexed n id at e c) ts t rest _ (operand (n + 1) (in_column n id at e t.at c)) b.cut (step_column n id at e t.at c t (is_this fixed.OpenBracket t.kind b.is, refl)) h
+
+  pub deep_column : (t : Token) (rest : List Token) → Begins fixed.OpenBracket ts t rest → 128 < n + 1 → run end (indexed n id at e c) ts ≡ deep t.at
+  deep_column t rest b h = run_deep end (indexed n id at e c) ts t rest _ _ b.cut (step_column n id at e t.at c t (is_this fixed.OpenBracket t.kind b.is, refl)) h
+
+  pub run_no_column : is_fixed fixed.OpenBracket (first_of_all end ts).kind ≡ false → run end (indexed n id at e c) ts ≡ run end (complete n (index id at e) c) ts
+  run_no_column f = let t = first_of_all end ts in run_alike end _ _ ts (same_false (is_fixed fixed.OpenBracket t.kind) _ _ f)
 
 -- Parentheses and casts
 

@@ -29,6 +29,7 @@ fn is_unary(e: &Expression) -> bool
         Expression::Name(_)
         | Expression::Call(_, _)
         | Expression::Index(_, _, _)
+        | Expression::Element { .. }
         | Expression::Constant(_, _, _)
         | Expression::Character(_, _)
         | Expression::Parenthesized(_, _)
@@ -127,10 +128,41 @@ impl Parser {
             let inside = nested(open.at, outside, 1)?;
             let (index, rest) = self.expression(after, inside)?;
             let ((_, last), index) = keeping(self.expect(rest, Fixed::CloseBracket), index)?;
-            let element = Expression::index(self.alloc, name, open.at, index)?;
-            return Ok((element, last));
+            return self.indexed(name, open.at, index, last, outside);
         }
         Ok((Expression::name(name), tokens))
+    }
+
+    // An element by the index that was read, or by a row's and a column's, where the latter follows.
+    #[cycle(expressions)]
+    fn indexed<'a>(
+        self,
+        name: Identifier,
+        at: Pos,
+        index: Expression,
+        tokens: &'a [Token],
+        outside: u32,
+    ) -> Result<(Expression, &'a [Token]), ParseError>
+        requires { outside ≤ nesting_limit }
+        ensures { MatchResult result
+            (λ r. Reads self.end Anywhere (λ c. states.indexed outside name at (expression_tree index) c) outside
+            tokens.now (expression_tree r.0) r.1.now × IsPrimary (expression_tree r.0)
+            × (length r.1.now ≤ length tokens.now))
+            (λ x. Refuses self.end Anywhere (λ c. states.indexed outside name at (expression_tree index) c)
+            tokens.now x) }
+    {
+        let Some((open, after)) = self.take(tokens, Fixed::OpenBracket) else {
+            let element = Expression::index(self.alloc, name, at, index)?;
+            return Ok((element, tokens));
+        };
+        let (inside, row) = keeping(nested(open.at, outside, 1), index)?;
+        let ((column, rest), row) = keeping(self.expression(after, inside), row)?;
+        let ((_, last), (row, column)) = keeping(
+            self.expect(rest, Fixed::CloseBracket),
+            (row, column),
+        )?;
+        let element = Expression::element(self.alloc, name, at, row, open.at, column)?;
+        Ok((element, last))
     }
 
     // A cast, of which the first word was read.

@@ -14,6 +14,7 @@ IsOne e =
     ((x : _) × (e ≡ variants.Name x))
     ⊎ ((x : _) × (xs : _) × (e ≡ variants.Call x xs))
     ⊎ ((x : _) × (at : _) × (a : _) × (e ≡ variants.Index x at a))
+    ⊎ ((x : _) × (at : _) × (a : _) × (column_at : _) × (b : _) × (e ≡ variants.Element x at a column_at b))
     ⊎ ((at : _) × (t : _) × (v : _) × (e ≡ variants.Constant at t v))
     ⊎ ((at : _) × (v : _) × (e ≡ variants.Character at v))
     ⊎ ((at : _) × (a : _) × (e ≡ variants.Parenthesized at a))
@@ -34,12 +35,13 @@ unfolding expression_tree
 one e (inl p) = ap unary (sym p.1)
 one e (inr (inl p)) = ap unary (sym p.2)
 one e (inr (inr (inl p))) = ap unary (sym p.3)
-one e (inr (inr (inr (inl p)))) = ap unary (sym p.3)
-one e (inr (inr (inr (inr (inl p))))) = ap unary (sym p.2)
+one e (inr (inr (inr (inl p)))) = ap unary (sym p.5)
+one e (inr (inr (inr (inr (inl p))))) = ap unary (sym p.3)
 one e (inr (inr (inr (inr (inr (inl p)))))) = ap unary (sym p.2)
-one e (inr (inr (inr (inr (inr (inr (inl p))))))) = ap unary (sym p.3)
+one e (inr (inr (inr (inr (inr (inr (inl p))))))) = ap unary (sym p.2)
 one e (inr (inr (inr (inr (inr (inr (inr (inl p)))))))) = ap unary (sym p.3)
-one e (inr (inr (inr (inr (inr (inr (inr (inr p)))))))) = ap unary (sym p.3)
+one e (inr (inr (inr (inr (inr (inr (inr (inr (inl p))))))))) = ap unary (sym p.3)
+one e (inr (inr (inr (inr (inr (inr (inr (inr (inr p))))))))) = ap unary (sym p.3)
 
 other : (e : Expression) → IsOther e → false ≡ unary e
 unfolding expression_tree
@@ -75,6 +77,9 @@ returns-in-Name-8 c = one c.args.e.now c.in-Name.is
 
 pub returns-in-Name-9 : goal.returns-in-Name-9
 returns-in-Name-9 c = one c.args.e.now c.in-Name.is
+
+pub returns-in-Name-10 : goal.returns-in-Name-10
+returns-in-Name-10 c = one c.args.e.now c.in-Name.is
 
 pub returns-in-Cast : goal.returns-in-Cast
 returns-in-Cast c = other c.args.e.now c.in-Cast.is

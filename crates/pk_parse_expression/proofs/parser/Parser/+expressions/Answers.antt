@@ -1,19 +1,19 @@
 use Rattle.std.proofs.Common.{◌+◌, ◌<◌, ◌≤◌, SFits, w8, length, refl, sym, ap, subst, ◌∙◌, arith, rules}
 use Rattle.std.proofs.lemmas.Int.{to_z-of_z}
-use Rattle.pk_ast.specs.Trees.{call, index, character, parenthesized, binary, conditional, assignment, comma}
+use Rattle.pk_ast.specs.Trees.{call, element, character, parenthesized, binary, conditional, assignment, comma}
 use Rattle.pk_ast.specs.Lists.{one}
 use Rattle.pk_ast.specs.Views.{expression_tree, expression_trees, specifiers_tree}
 use Rattle.pk_grammar.specs.Grammar.{operators_in, postfixes_in, commas_in}
-use Rattle.pk_grammar.specs.Machine.States.{Context, in_call, in_index, in_parentheses, in_cast, in_choice, in_alternative, in_assignment, in_comma, named, operand, complete}
+use Rattle.pk_grammar.specs.Machine.States.{Context, in_call, in_index, in_column, in_parentheses, in_cast, in_choice, in_alternative, in_assignment, in_comma, named, indexed, operand, complete}
 use Rattle.pk_grammar.specs.Machine.Steps.{operand_level}
 use Rattle.pk_grammar.specs.Machine.Running.{run}
 use Rattle.pk_parse_expression.proofs.RunLemmas.{passed, handed, fails_as, fails_syntax, fails_nesting, no_more, below, outside_below, one_below}
 use Rattle.pk_parse_expression.proofs.KeptLemmas.{made, not_made}
 use Rattle.pk_parse_expression.proofs.WordLemmas.{no_longer}
 use Rattle.pk_parse_expression.proofs.RunOperators.{follows_weaker, deep_question, deep_assignment, no_assignment}
-use Rattle.pk_parse_expression.proofs.RunOperands.{run_no_arguments, run_arguments, run_called, run_argument, run_name_alone, run_call, deep_call, deep_index, run_indexed, run_inner, run_parenthesized, run_cast, no_cast, run_name, run_constant, run_character, run_open, deep_open, deep_prefix, deep_unary, no_operand, operand_at_end, deep_comma}
-use Rattle.pk_parse_expression.proofs.RunEnds.{no_parenthesis, no_bracket, no_colon, no_argument_end}
-use Rattle.pk_parse_expression.proofs.ExpressionLemmas.{trees_push, le_more, counts, ends_within, ends_binary, indexes, reads_prefix, fails_prefix, reads_unary, fails_unary, reads_binary, fails_binary, sinks_binary, asks, chooses, reads_conditional, assigns, reads_assignment, joins_comma, reads_comma, no_cast_words, closes_cast, unclosed_cast, reads_cast}
+use Rattle.pk_parse_expression.proofs.RunOperands.{run_no_arguments, run_arguments, run_called, run_argument, run_name_alone, run_call, deep_call, deep_index, run_indexed, run_element, run_no_column, deep_column, run_inner, run_parenthesized, run_cast, no_cast, run_name, run_constant, run_character, run_open, deep_open, deep_prefix, deep_unary, no_operand, operand_at_end, deep_comma}
+use Rattle.pk_parse_expression.proofs.RunEnds.{no_parenthesis, no_bracket, no_column_bracket, no_colon, no_argument_end}
+use Rattle.pk_parse_expression.proofs.ExpressionLemmas.{trees_push, le_more, counts, ends_within, ends_binary, indexes, indexes_column, reads_prefix, fails_prefix, reads_unary, fails_unary, reads_binary, fails_binary, sinks_binary, asks, chooses, reads_conditional, assigns, reads_assignment, joins_comma, reads_comma, no_cast_words, closes_cast, unclosed_cast, reads_cast}
 use Rattle.pk_parse_expression.proofs.parser.Parser.+expressions.Goals as goal
 
 -- A call's arguments
@@ -147,14 +147,73 @@ named-returns-in-Some-take t c =
     let n = c.in_ok-inside.ensures in
     let x = c.in_ok-index.ensures in
     let closed = made _ _ _ _ c.expect.ensures c.in_ok-last.ensures.0 in
-    let w = c.in_ok-element.ensures ∙ ap (λ e. index c.args.name c.in-Some-take.open.at (expression_tree e)) c.in_ok-last.ensures.1 in (
+    let at = c.in-Some-take.open.at in
+    let begins = λ (k : Context).
+    indexes c.args.self.end c.args.outside c.args.name k c.args.tokens.now c.in-Some-take.open c.in-Some-take.after.now _ c.in-Some-take.ensures n.0 n.1
+    ∙ x.0 (in_index c.args.outside c.args.name at k) (no_more _)
+    ∙ run_indexed c.args.self.end c.args.outside c.in_ok-inside.inside at (expression_tree c.in_ok-index.index) k _ _ _ c.args.name closed c.requires
+    ∙ ap (λ e. run c.args.self.end (indexed c.args.outside c.args.name at (expression_tree e) k) c.in_ok-last.last.now) (sym c.in_ok-last.ensures.1) in
+    handed _ _ _ _ c.indexed.result c.indexed.ensures
+    (λ r e. (λ k h. begins k ∙ e.0 k tt, e.1, (let p = e.2 in let q = x.2 in omega (arith, ap length c.in-Some-take.ensures.cut, ap length closed.cut))))
+    (λ y e k h. fails_as _ _ _ (begins k) (e k tt))
+
+-- An element
+
+pub indexed-returns-in_default : goal.indexed-returns-in_default
+indexed-returns-in_default t c =
+    let w = c.in_ok-element.ensures in (
       λ k h.
-          indexes c.args.self.end c.args.outside c.args.name k c.args.tokens.now c.in-Some-take.open c.in-Some-take.after.now _ c.in-Some-take.ensures n.0 n.1
-          ∙ x.0 (in_index c.args.outside c.args.name c.in-Some-take.open.at k) (no_more _)
-          ∙ run_indexed c.args.self.end c.args.outside c.in_ok-inside.inside c.in-Some-take.open.at (expression_tree c.in_ok-index.index) k _ _ _ c.args.name closed c.requires
+          run_no_column c.args.self.end c.args.outside c.args.name c.args.at (expression_tree c.args.index) k c.args.tokens.now c.in_default.ensures
+          ∙ ap (λ q. run c.args.self.end (complete c.args.outside q k) c.args.tokens.now) (sym w),
+      record { postfixes = ap postfixes_in w; operators = ap operators_in w; commas = ap commas_in w },
+      no_more _,
+    )
+
+pub indexed-returns-in_err-inside : goal.indexed-returns-in_err-inside
+indexed-returns-in_err-inside t c =
+    let f = not_made _ _ _ _ c.nested.ensures c.in_err-inside.ensures in
+    passed _ _ c.from_residual-in_err-inside.result _ c.from_residual-in_err-inside.ensures.1
+    (λ k h. fails_nesting _ _ _ f.0 (deep_column c.args.self.end c.args.outside c.args.name c.args.at (expression_tree c.args.index) k c.args.tokens.now _ _ c.in-Some.ensures f.1))
+
+pub indexed-returns-in_err-column : goal.indexed-returns-in_err-column
+indexed-returns-in_err-column t c =
+    let n = made _ _ _ _ c.nested.ensures c.in_ok-inside.ensures.0 in
+    let row = expression_tree c.args.index in
+    passed _ _ c.from_residual-in_err-column.result _ c.from_residual-in_err-column.ensures.1
+    (λ k h. fails_as _ _ _
+    (indexes_column c.args.self.end c.args.outside c.args.name c.args.at row k c.args.tokens.now c.in-Some.open c.in-Some.after.now _ c.in-Some.ensures n.0 n.1)
+    (not_made _ _ _ _ c.expression.ensures c.in_err-column.ensures (in_column c.args.outside c.args.name c.args.at row c.in-Some.open.at k) (no_more _)))
+
+pub indexed-returns-in_err-last : goal.indexed-returns-in_err-last
+indexed-returns-in_err-last t c =
+    let n = made _ _ _ _ c.nested.ensures c.in_ok-inside.ensures.0 in
+    let x = made _ _ _ _ c.expression.ensures c.in_ok-column.ensures.0 in
+    let f = not_made _ _ _ _ c.expect.ensures c.in_err-last.ensures in
+    let row = expression_tree c.args.index in
+    passed _ _ c.from_residual-in_err-last.result _ c.from_residual-in_err-last.ensures.1
+    (λ k h. fails_syntax _ _ _ f.1
+    (indexes_column c.args.self.end c.args.outside c.args.name c.args.at row k c.args.tokens.now c.in-Some.open c.in-Some.after.now _ c.in-Some.ensures n.0 n.1
+    ∙ x.0 (in_column c.args.outside c.args.name c.args.at row c.in-Some.open.at k) (no_more _)
+    ∙ no_column_bracket c.args.self.end c.args.outside c.in_ok-inside.inside c.args.at (expression_tree c.in_ok-column.column) k _ c.args.name row c.in-Some.open.at x.1 f.0))
+
+pub indexed-returns : goal.indexed-returns
+indexed-returns t c =
+    let n = made _ _ _ _ c.nested.ensures c.in_ok-inside.ensures.0 in
+    let x = made _ _ _ _ c.expression.ensures c.in_ok-column.ensures.0 in
+    let closed = made _ _ _ _ c.expect.ensures c.in_ok-last.ensures.0 in
+    let row = expression_tree c.args.index in
+    let column_at = c.in-Some.open.at in
+    let w =
+    c.in_ok-element-2.ensures
+    ∙ ap (λ q. element c.args.name c.args.at (expression_tree q.0) column_at (expression_tree q.1)) c.in_ok-last.ensures.1
+    ∙ ap (λ e. element c.args.name c.args.at (expression_tree e) column_at (expression_tree c.in_ok-column.column)) (c.in_ok-column.ensures.1 ∙ c.in_ok-inside.ensures.1) in (
+      λ k h.
+          indexes_column c.args.self.end c.args.outside c.args.name c.args.at row k c.args.tokens.now c.in-Some.open c.in-Some.after.now _ c.in-Some.ensures n.0 n.1
+          ∙ x.0 (in_column c.args.outside c.args.name c.args.at row column_at k) (no_more _)
+          ∙ run_element c.args.self.end c.args.outside c.in_ok-inside.inside c.args.at (expression_tree c.in_ok-column.column) k _ _ _ c.args.name row column_at closed c.requires
           ∙ ap (λ q. run c.args.self.end (complete c.args.outside q k) c.in_ok-last.last.now) (sym w),
       record { postfixes = ap postfixes_in w; operators = ap operators_in w; commas = ap commas_in w },
-      (let p = x.2 in omega (arith, ap length c.in-Some-take.ensures.cut, ap length closed.cut)),
+      (let p = x.2 in omega (arith, ap length c.in-Some.ensures.cut, ap length closed.cut)),
     )
 
 -- A cast

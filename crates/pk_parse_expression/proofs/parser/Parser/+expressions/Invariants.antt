@@ -14,6 +14,9 @@ decreases-arguments l = 10 * (128 - l.outside) + 1
 abbrev pub decreases-cast : goal.decreases-cast
 decreases-cast l = 10 * (128 - l.outside) + 1
 
+abbrev pub decreases-indexed : goal.decreases-indexed
+decreases-indexed l = 10 * (128 - l.outside) + 1
+
 abbrev pub decreases-named : goal.decreases-named
 decreases-named l = 10 * (128 - l.outside) + 2
 
