@@ -1,4 +1,5 @@
 pub mod ListLemmas
+pub mod InitializerLemmas
 pub mod ItemLemmas
 pub mod PartLemmas
 pub mod DeclaratorLemmas

@@ -1,5 +1,5 @@
 -- Declared objects of a function (C99 6.7, 6.7.8).
-use Rattle.std.specs.Prelude.{ℕ, zero, suc, Bool, true, false, not, is_some, Option, Some, None, option_map, List, [], ◌∷◌, ◌++◌, length, if◌then◌else◌}
+use Rattle.std.specs.Prelude.{ℕ, Bool, true, false, not, is_some, Option, Some, None, option_map, List, [], ◌∷◌, ◌++◌, length, if◌then◌else◌}
 use Rattle.std.specs.Str.Lossy.{utf8_lossy}
 use Rattle.pk_ctypes.specs.declared.places.Pos.{Pos}
 use Rattle.pk_ctypes.specs.declared.types.IntType.{IntType}
@@ -7,12 +7,11 @@ use Rattle.pk_ctypes.specs.declared.types.IntType.TheVariants.{Int}
 use Rattle.pk_ctypes.specs.declared.words.Rule.TheVariants as rule
 use Rattle.pk_ast.specs.declared.declarations.Specifier.{Specifier}
 use Rattle.pk_ast.specs.declared.expressions.Identifier.{Identifier}
-use Rattle.pk_ast.specs.Places.{first_place_of}
-use Rattle.pk_ast.specs.Trees.{OneOrMore, ExpressionTree, ExpressionTrees, no_expressions, expression_then, InitializerTree, single, braced, DeclaratorTree}
+use Rattle.pk_ast.specs.Trees.{OneOrMore, ExpressionTree, InitializerTree, single, braced, DimensionsTree, DeclaratorTree}
 use Rattle.pk_typed.specs.declared.values.Variable.{Variable}
 use Rattle.pk_typed.specs.declared.values.Variable.TheVariants.{Local}
 use Rattle.pk_typed.specs.Trees as tree
-use Rattle.pk_typed.specs.Trees.{LocalTree, value_before, DeclaredTree}
+use Rattle.pk_typed.specs.Trees.{LocalTree, DeclaredTree}
 use Rattle.pk_type_scope.specs.declared.declarations.Declaration.{Declaration}
 use Rattle.pk_type_scope.specs.declared.declarations.Declaration.TheVariants as declared
 use Rattle.pk_type_scope.specs.declared.declarations.Object.{Object}
@@ -26,6 +25,7 @@ use Rattle.pk_type_scope.specs.Specifiers.{type_named, names_const}
 use Rattle.pk_type_expression.specs.Typed.{of_both}
 use Rattle.pk_type_declaration.specs.declared.words.Words.{Words}
 use Rattle.pk_type_declaration.specs.Constants.{evaluated, length_in, after_length}
+use Rattle.pk_type_declaration.specs.Initializers.{braced_values, first_misfit}
 use Rattle.pk_type_declaration.specs.Specials.{special}
 use Rattle.pk_type_declaration.specs.Walks.{Walked, Adding, failing, after_value, after_values, after_name, with_local, value_at, values_at}
 
@@ -76,38 +76,38 @@ at_name s t x = redeclared s x ++ void_object t x.at ++ special_object s x
 abbrev pub braces : Bool → Option InitializerTree → Pos → List Failure
 braces is_array None at = []
 braces is_array (Some (single e)) at = fails_if is_array rule.Array at
-braces is_array (Some (braced brace e es)) at = fails_if (not is_array) rule.Array at
+braces is_array (Some (braced brace is)) at = fails_if (not is_array) rule.Array at
 
--- the expression of a number, counted from 0
-abbrev pub item_at : ExpressionTrees → ℕ → Option ExpressionTree
-item_at no_expressions n = None
-item_at (expression_then e es) zero = Some e
-item_at (expression_then e es) (suc n) = item_at es n
+abbrev pub misfit_at : Option Pos → List Failure
+misfit_at None = []
+misfit_at (Some at) = fails_if true rule.Initialiser at
 
-abbrev pub surplus_item : Option ExpressionTree → List Failure
-surplus_item None = []
-surplus_item (Some e) = fails_if true rule.Initialiser (first_place_of e)
-
--- initialiser: more items than the length; at the first one too many
-abbrev pub surplus : Option ℕ → Option InitializerTree → List Failure
-surplus None first = []
-surplus (Some n) None = []
-surplus (Some n) (Some (single e)) = []
-surplus (Some n) (Some (braced brace e es)) = surplus_item (item_at (expression_then e es) n)
+-- initialiser: a row, since arrays have one dimension, or more items than the length; at the first of these
+abbrev pub misfit : Option ℕ → Option InitializerTree → List Failure
+misfit None first = []
+misfit (Some n) None = []
+misfit (Some n) (Some (single e)) = []
+misfit (Some n) (Some (braced brace is)) = misfit_at (first_misfit n (is.first ∷ is.more))
 
 abbrev pub after_initializer : {F : Type 0} → Adding F → Option InitializerTree → Walked F → Walked F
 after_initializer add None w = w
 after_initializer add (Some (single e)) w = after_value add e w
-after_initializer add (Some (braced brace e es)) w = after_values add es (after_value add e w)
+after_initializer add (Some (braced brace is)) w = after_values add (braced_values is) w
 
 -- the length of an array, where it has one; a scalar has none
-abbrev pub length_at : {F : Type 0} → Walked F → Option ExpressionTree → Option ℕ
+abbrev pub length_at : {F : Type 0} → Walked F → Option DimensionsTree → Option ℕ
 length_at w None = None
-length_at w (Some e) = length_in (evaluated w e)
+length_at w (Some d) = length_in (evaluated w d.length)
 
-abbrev pub after_optional_length : {F : Type 0} → Adding F → Option ExpressionTree → Walked F → Walked F
-after_optional_length add None w = w
-after_optional_length add (Some e) w = after_length add e w
+-- array: the array has rows and columns, for which there are no typed trees; at the name
+abbrev pub after_columns : {F : Type 0} → Adding F → Pos → Option ExpressionTree → Walked F → Walked F
+after_columns add at None w = w
+after_columns add at (Some e) w = failing add (fails_if true rule.Array at) (after_length add e w)
+
+-- the dimensions of an object whose name stands at a place
+abbrev pub after_dimensions : {F : Type 0} → Adding F → Pos → Option DimensionsTree → Walked F → Walked F
+after_dimensions add at None w = w
+after_dimensions add at (Some d) w = after_columns add at d.columns (after_length add d.length w)
 
 abbrev pub length_or_1 : Bool → Option ℕ → Option ℕ
 length_or_1 false n = None
@@ -128,12 +128,12 @@ after_object add words is_array n x w =
     with_local (local_of words.typing w.scoping is_array n x)
     (after_object_name add words.typing (object_at words is_array w) x w)
 
--- a declarator as far as what its name begins with: its length stands outside its scope
+-- a declarator as far as what its name begins with: its dimensions stand outside its scope
 abbrev pub after_head : {F : Type 0} → Adding F → Words → DeclaratorTree → Walked F → Walked F
 after_head add words d w =
-    let n = length_at w d.length in
-    failing add (braces (is_some d.length) d.initializer d.name.at ++ surplus n d.initializer)
-    (after_object add words (is_some d.length) n d.name (after_optional_length add d.length w))
+    let n = length_at w d.dimensions in
+    failing add (braces (is_some d.dimensions) d.initializer d.name.at ++ misfit n d.initializer)
+    (after_object add words (is_some d.dimensions) n d.name (after_dimensions add d.name.at d.dimensions w))
 
 -- what it begins with stands inside its scope
 unfoldable pub after_declarator : {F : Type 0} → Adding F → Words → DeclaratorTree → Walked F → Walked F
@@ -148,22 +148,20 @@ after_declarators add words (d ∷ ds) w = after_declarators add words ds (after
 abbrev pub scalar_tree : {F : Type 0} → ℕ → Pos → Option InitializerTree → Walked F → Option DeclaredTree
 scalar_tree n at None w = Some (tree.scalar_object n at None)
 scalar_tree n at (Some (single e)) w = option_map (λ v. tree.scalar_object n at (Some v)) (value_at w e)
-scalar_tree n at (Some (braced brace e es)) w = None
+scalar_tree n at (Some (braced brace is)) w = None
 
-abbrev pub array_tree : {F : Type 0} → Adding F → ℕ → Pos → Option InitializerTree → Walked F → Option DeclaredTree
-array_tree add n at None w = Some (tree.array_object n at None)
-array_tree add n at (Some (single e)) w = None
-array_tree add n at (Some (braced brace e es)) w =
-    option_map (λ vs. tree.array_object n at (Some vs))
-    (of_both value_before (value_at w e) (values_at (after_value add e w) es))
+abbrev pub array_tree : {F : Type 0} → ℕ → Pos → Option InitializerTree → Walked F → Option DeclaredTree
+array_tree n at None w = Some (tree.array_object n at None)
+array_tree n at (Some (single e)) w = None
+array_tree n at (Some (braced brace is)) w =
+    option_map (λ vs. tree.array_object n at (Some vs)) (values_at w (braced_values is))
 
-abbrev pub object_tree : {F : Type 0} → Adding F → Bool → ℕ → Pos → Option InitializerTree → Walked F →
-    Option DeclaredTree
-object_tree add is_array n at first w = if is_array then array_tree add n at first w else scalar_tree n at first w
+abbrev pub object_tree : {F : Type 0} → Bool → ℕ → Pos → Option InitializerTree → Walked F → Option DeclaredTree
+object_tree is_array n at first w = if is_array then array_tree n at first w else scalar_tree n at first w
 
 unfoldable pub declarator_tree_at : {F : Type 0} → Adding F → Words → DeclaratorTree → Walked F → Option DeclaredTree
 declarator_tree_at add words d w =
-    object_tree add (is_some d.length) (length w.locals) d.name.at d.initializer (after_head add words d w)
+    object_tree (is_some d.dimensions) (length w.locals) d.name.at d.initializer (after_head add words d w)
 
 unfoldable pub declarator_trees_at : {F : Type 0} → Adding F → Words → List DeclaratorTree → Walked F →
     Option (List DeclaredTree)

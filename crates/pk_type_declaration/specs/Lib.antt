@@ -1,6 +1,7 @@
 pub mod Walks
 pub mod Constants
 pub mod Specials
+pub mod Initializers
 pub mod Declarations
 pub mod Enumerations
 pub mod Starts

@@ -2,9 +2,10 @@
 use Rattle.std.specs.Prelude.{ℕ, ℤ, pos, Option, Some, None, List, [], ◌∷◌}
 use Rattle.pk_ctypes.specs.declared.types.IntType.{IntType}
 use Rattle.pk_ctypes.specs.Types.{wrapped}
-use Rattle.pk_ast.specs.Trees.{ExpressionTree, ExpressionTrees, no_expressions, expression_then, InitializerTree, single, braced}
+use Rattle.pk_ast.specs.Trees.{ExpressionTree, ExpressionTrees, no_expressions, expression_then, InitializerTree}
 use Rattle.pk_typed.specs.Trees.{StartTree, scalar_start, array_start}
 use Rattle.pk_type_declaration.specs.Constants.{evaluated, number_in, after_constant}
+use Rattle.pk_type_declaration.specs.Initializers.{given}
 use Rattle.pk_type_declaration.specs.Walks.{Walked, Adding}
 
 -- a value that an object begins with, converted to its type; 0 where a failure leaves it out
@@ -23,12 +24,6 @@ unfoldable pub numbers_at : {F : Type 0} → Adding F → IntType → Expression
 numbers_at add t no_expressions w = []
 numbers_at add t (expression_then e es) w = number_at t w e ∷ numbers_at add t es (after_constant add e w)
 
--- what is given, each of which has to be constant
-abbrev pub given : Option InitializerTree → ExpressionTrees
-given None = no_expressions
-given (Some (single e)) = expression_then e no_expressions
-given (Some (braced at e es)) = expression_then e es
-
 abbrev pub first_or_0 : List ℤ → ℤ
 first_or_0 [] = pos 0
 first_or_0 (n ∷ ns) = n
@@ -37,6 +32,6 @@ abbrev pub start_of : Option ℕ → List ℤ → StartTree
 start_of None ns = scalar_start (first_or_0 ns)
 start_of (Some n) ns = array_start n ns
 
--- a scalar's or an array's start
+-- a scalar's or an array's start; each value that is given has to be constant
 abbrev pub start_at : {F : Type 0} → Adding F → IntType → Option ℕ → Option InitializerTree → Walked F → StartTree
 start_at add t n first w = start_of n (numbers_at add t (given first) w)

@@ -7,9 +7,10 @@ use Rattle.pk_typed.specs.Trees.{FileObjectTree, DeclaredTree, static_object}
 use Rattle.pk_type_scope.specs.declared.declarations.Declaration.{Declaration}
 use Rattle.pk_type_scope.specs.declared.declarations.Declaration.TheVariants as declared
 use Rattle.pk_type_declaration.specs.declared.words.Words.{Words}
-use Rattle.pk_type_declaration.specs.Declarations.{type_or_int, object_of, text_of, braces, surplus, length_at, after_optional_length, length_or_1, after_object_name, after_declarators, declarator_trees_at}
+use Rattle.pk_type_declaration.specs.Declarations.{type_or_int, object_of, text_of, braces, misfit, length_at, after_dimensions, length_or_1, after_object_name, after_declarators, declarator_trees_at}
 use Rattle.pk_type_declaration.specs.Enumerations.{words_at, after_words, word_trees_at}
-use Rattle.pk_type_declaration.specs.Starts.{after_numbers, given, start_at}
+use Rattle.pk_type_declaration.specs.Initializers.{given}
+use Rattle.pk_type_declaration.specs.Starts.{after_numbers, start_at}
 use Rattle.pk_type_declaration.specs.Walks.{Walked, Adding, here, failing, with_static}
 
 -- the number of the next among the unit's objects
@@ -22,16 +23,16 @@ static_at words is_array w = declared.Object (object_of words is_array (File (ne
 -- a declarator as far as what its name begins with
 abbrev pub after_static_head : {F : Type 0} → Adding F → Words → DeclaratorTree → Walked F → Walked F
 after_static_head add words d w =
-    failing add (braces (is_some d.length) d.initializer d.name.at ++ surplus (length_at w d.length) d.initializer)
-    (after_object_name add words.typing (static_at words (is_some d.length) w) d.name
-    (after_optional_length add d.length w))
+    failing add (braces (is_some d.dimensions) d.initializer d.name.at ++ misfit (length_at w d.dimensions) d.initializer)
+    (after_object_name add words.typing (static_at words (is_some d.dimensions) w) d.name
+    (after_dimensions add d.name.at d.dimensions w))
 
 abbrev pub static_of : {F : Type 0} → Adding F → Words → DeclaratorTree → Walked F → FileObjectTree
 static_of add words d w =
     record {
       name = text_of w.scoping d.name;
       int_type = type_or_int words.typing;
-      start = start_at add (type_or_int words.typing) (length_or_1 (is_some d.length) (length_at w d.length))
+      start = start_at add (type_or_int words.typing) (length_or_1 (is_some d.dimensions) (length_at w d.dimensions))
           d.initializer (after_static_head add words d w);
     }
 

@@ -1,7 +1,7 @@
 // Declared objects of a function.
 
 ghost use Rattle.std.specs.Prelude.{◌≡◌, option_map, IfOk, OnOk, length};
-ghost use Rattle.pk_ast.specs.Views.{expression_tree, specifiers_tree, declarator_tree, declarator_trees};
+ghost use Rattle.pk_ast.specs.Views.{expression_tree, specifiers_tree, dimensions_tree, declarator_tree, declarator_trees};
 ghost use Rattle.pk_typed.specs.Views.{declared_tree, declared_trees};
 ghost use Rattle.pk_type_scope.specs.declared.declarations.Declaration.TheVariants as declared;
 ghost use Rattle.pk_type_scope.specs.Failures.{noted};
@@ -11,32 +11,58 @@ ghost use Rattle.pk_type_declaration.specs.Parts.{joined};
 ghost use Rattle.pk_type_declaration.specs.Views.{walked_in, declared_in};
 ghost use Rattle.pk_type_declaration.specs.Walks as walks;
 
-use crate::initializers::{first_value, note_braces, note_surplus};
+use crate::initializers::{first_value, note_braces, note_misfit};
 use crate::parts::Parts;
 use crate::specials::special;
 use crate::walk::Walk;
 use crate::words::{Words, integer_in, type_or_int};
-use pk_ast::{Declarator, Expression, Identifier, Specifiers};
-use pk_ctypes::{Name, Rule};
+use pk_ast::{Declarator, Dimensions, Expression, Identifier, Specifiers};
+use pk_ctypes::{Name, Pos, Rule};
 use pk_type_scope::{Declaration, Object, Typing, note_specifiers, spelling};
 use pk_typed::{Declared, Local, Variable};
 use std::alloc::{AllocError, Global};
 
 impl<'a> Walk<'a> {
-    /// The length of an array, where it has one.
-    pub fn optional_length(
+    // The columns of an array of rows, where it has them: none is typed.
+    fn columns(
         &mut self,
         alloc: Global,
-        length: &Option<Expression>,
+        at: Pos,
+        columns: &Option<Expression>,
+    ) -> Result<(), AllocError>
+        ensures { OnOk result (walked_in self.new
+            ≡ definitions.after_columns noted at (option_map expression_tree columns.now) (walked_in self.old)) }
+    {
+        match columns {
+            None => Ok(()),
+            Some(e) => {
+                self.length(alloc, e)?;
+                self.fail_if(true, Rule::Array, at);
+                Ok(())
+            }
+        }
+    }
+
+    /// The dimensions of an object whose name stands at a place: gives the length of an array, where it has one.
+    #[tactic(auto, unfolding(pk_ast::specs::Views::dimensions_tree))]
+    pub fn dimensions(
+        &mut self,
+        alloc: Global,
+        at: Pos,
+        dimensions: &Option<Dimensions>,
     ) -> Result<Option<usize>, AllocError>
         ensures walked { OnOk result (walked_in self.new
-            ≡ definitions.after_optional_length noted (option_map expression_tree length.now) (walked_in self.old)) }
+            ≡ definitions.after_dimensions noted at (option_map dimensions_tree dimensions.now) (walked_in self.old)) }
         ensures length { IfOk result
-            (λ n. n ≡ definitions.length_at (walked_in self.old) (option_map expression_tree length.now)) }
+            (λ n. n ≡ definitions.length_at (walked_in self.old) (option_map dimensions_tree dimensions.now)) }
     {
-        match length {
+        match dimensions {
             None => Ok(None),
-            Some(e) => self.length(alloc, e),
+            Some(d) => {
+                let length = self.length(alloc, &d.length)?;
+                self.columns(alloc, at, &d.columns)?;
+                Ok(length)
+            }
         }
     }
 
@@ -94,11 +120,11 @@ impl<'a> Walk<'a> {
         ensures number { IfOk result (λ n. n ≡ length (walked_in self.old).locals) }
     {
         let number = self.locals.len();
-        let is_array = d.length.is_some();
-        let length = self.optional_length(alloc, &d.length)?;
+        let is_array = d.dimensions.is_some();
+        let length = self.dimensions(alloc, d.name.at, &d.dimensions)?;
         self.object(alloc, words, is_array, length, d.name)?;
         note_braces(self, is_array, &d.initializer, d.name.at);
-        note_surplus(self, length, &d.initializer);
+        note_misfit(self, length, &d.initializer);
         Ok(number)
     }
 
@@ -119,7 +145,7 @@ impl<'a> Walk<'a> {
         first_value(
             self,
             alloc,
-            d.length.is_some(),
+            d.dimensions.is_some(),
             number,
             d.name.at,
             &d.initializer,

@@ -14,7 +14,7 @@ mod words;
 
 pub use constants::Evaluated;
 pub use declarators::length_or_1;
-pub use initializers::{note_braces, note_surplus};
+pub use initializers::{note_braces, note_misfit};
 pub use parts::Parts;
 pub use specials::special;
 pub use walk::{Statics, Walk};

@@ -1,15 +1,22 @@
 // What objects begin with that hold it when a run begins.
 
 ghost use Rattle.std.specs.Prelude.{◌≡◌, ◌++◌, ◌∷◌, [], option_map, IfOk, OnOk};
-ghost use Rattle.pk_ast.specs.Views.{expression_tree, expression_trees, initializer_tree};
+ghost use Rattle.pk_ast.specs.Views.{
+  expression_tree,
+  expression_trees,
+  initializer_item_tree,
+  initializer_item_trees,
+  initializer_tree,
+};
 ghost use Rattle.pk_typed.specs.Views.{start_tree};
 ghost use Rattle.pk_type_scope.specs.Failures.{noted};
 ghost use Rattle.pk_type_declaration.specs.Constants.{after_constant};
+ghost use Rattle.pk_type_declaration.specs.Initializers.{item_values, items_values, given};
 ghost use Rattle.pk_type_declaration.specs.Starts as definitions;
 ghost use Rattle.pk_type_declaration.specs.Views.{walked_in};
 
 use crate::walk::Walk;
-use pk_ast::{Expression, Initializer};
+use pk_ast::{Expression, Initializer, InitializerItem};
 use pk_ctypes::{IntType, convert};
 use pk_typed::Start;
 use std::alloc::{AllocError, Global};
@@ -79,6 +86,66 @@ fn numbers(
     Ok(())
 }
 
+// The values of an item, after others.
+#[tactic(auto, unfolding(pk_ast::specs::Views::initializer_item_tree, crate::specs::Starts::after_numbers, crate::specs::Starts::numbers_at))]
+fn item(
+    walk: &mut Walk<'_>,
+    alloc: Global,
+    int_type: IntType,
+    item: &InitializerItem,
+    all: &mut Vec<i128>,
+) -> Result<(), AllocError>
+    ensures walked { OnOk result (walked_in walk.new
+        ≡ definitions.after_numbers noted (item_values (initializer_item_tree item.now)) (walked_in walk.old)) }
+    ensures numbers { OnOk result (all.new.items ≡ all.old.items
+        ++ definitions.numbers_at noted int_type (item_values (initializer_item_tree item.now)) (walked_in walk.old)) }
+{
+    match item {
+        InitializerItem::Value(e) => number(walk, alloc, int_type, e, all),
+        InitializerItem::Row(row) => {
+            number(walk, alloc, int_type, &row.first, all)?;
+            numbers(walk, alloc, int_type, &row.more, all)
+        }
+    }
+}
+
+// The values of items, after others.
+fn items(
+    walk: &mut Walk<'_>,
+    alloc: Global,
+    int_type: IntType,
+    list: &[InitializerItem],
+    all: &mut Vec<i128>,
+) -> Result<(), AllocError>
+    ensures walked { OnOk result (walked_in walk.new
+        ≡ definitions.after_numbers noted (items_values (initializer_item_trees list.now)) (walked_in walk.old)) }
+    ensures numbers { OnOk result (all.new.items ≡ all.old.items
+        ++ definitions.numbers_at noted int_type (items_values (initializer_item_trees list.now)) (walked_in walk.old)) }
+{
+    for i in list {
+        item(walk, alloc, int_type, i, all)?;
+    }
+    Ok(())
+}
+
+// The values in braces, after others.
+fn braced(
+    walk: &mut Walk<'_>,
+    alloc: Global,
+    int_type: IntType,
+    first: &InitializerItem,
+    more: &[InitializerItem],
+    all: &mut Vec<i128>,
+) -> Result<(), AllocError>
+    ensures walked { OnOk result (walked_in walk.new ≡ definitions.after_numbers noted
+        (items_values (initializer_item_tree first.now ∷ initializer_item_trees more.now)) (walked_in walk.old)) }
+    ensures numbers { OnOk result (all.new.items ≡ all.old.items ++ definitions.numbers_at noted int_type
+        (items_values (initializer_item_tree first.now ∷ initializer_item_trees more.now)) (walked_in walk.old)) }
+{
+    item(walk, alloc, int_type, first, all)?;
+    items(walk, alloc, int_type, more, all)
+}
+
 // What an object begins with.
 #[tactic(auto, unfolding(pk_ast::specs::Views::initializer_tree, crate::specs::Starts::after_numbers, crate::specs::Starts::numbers_at))]
 fn given(
@@ -88,10 +155,10 @@ fn given(
     first: &Option<Initializer>,
 ) -> Result<Vec<i128>, AllocError>
     ensures walked { OnOk result (walked_in walk.new
-        ≡ definitions.after_numbers noted (definitions.given (option_map initializer_tree first.now))
+        ≡ definitions.after_numbers noted (given (option_map initializer_tree first.now))
         (walked_in walk.old)) }
     ensures numbers { IfOk result (λ v. v.items
-        ≡ definitions.numbers_at noted int_type (definitions.given (option_map initializer_tree first.now))
+        ≡ definitions.numbers_at noted int_type (given (option_map initializer_tree first.now))
         (walked_in walk.old)) }
 {
     let mut all = Vec::new(alloc);
@@ -101,8 +168,7 @@ fn given(
             number(walk, alloc, int_type, e, &mut all)?;
         }
         Some(Initializer::Braced { first, more, .. }) => {
-            number(walk, alloc, int_type, first, &mut all)?;
-            numbers(walk, alloc, int_type, more, &mut all)?;
+            braced(walk, alloc, int_type, first, more, &mut all)?;
         }
     }
     Ok(all)
@@ -118,7 +184,7 @@ impl<'a> Walk<'a> {
         first: &Option<Initializer>,
     ) -> Result<Start, AllocError>
         ensures walked { OnOk result (walked_in self.new
-            ≡ definitions.after_numbers noted (definitions.given (option_map initializer_tree first.now))
+            ≡ definitions.after_numbers noted (given (option_map initializer_tree first.now))
             (walked_in self.old)) }
         ensures start { IfOk result (λ s. start_tree s
             ≡ definitions.start_at noted int_type length (option_map initializer_tree first.now)

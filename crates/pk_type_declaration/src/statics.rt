@@ -10,7 +10,7 @@ ghost use Rattle.pk_type_declaration.specs.Views.{walked_in};
 ghost use Rattle.pk_type_declaration.specs.Walks as walks;
 
 use crate::declarators::length_or_1;
-use crate::initializers::{note_braces, note_surplus};
+use crate::initializers::{note_braces, note_misfit};
 use crate::parts::Parts;
 use crate::walk::Walk;
 use crate::words::{Words, integer_in, type_or_int};
@@ -54,20 +54,20 @@ impl<'a> Walk<'a> {
         ensures walked { OnOk result (walked_in self.new
             ≡ definitions.after_static_head noted words (declarator_tree d.now) (walked_in self.old)) }
         ensures length { IfOk result (λ n. n
-            ≡ length_or_1 (is_some (declarator_tree d.now).length)
-            (length_at (walked_in self.old) (declarator_tree d.now).length)) }
+            ≡ length_or_1 (is_some (declarator_tree d.now).dimensions)
+            (length_at (walked_in self.old) (declarator_tree d.now).dimensions)) }
     {
-        let is_array = d.length.is_some();
+        let is_array = d.dimensions.is_some();
         let object = Object {
             variable: Variable::File(number),
             int_type: integer_in(words.typing),
             is_array,
             is_const: words.is_const,
         };
-        let length = self.optional_length(alloc, &d.length)?;
+        let length = self.dimensions(alloc, d.name.at, &d.dimensions)?;
         self.object_name(words.typing, object, d.name)?;
         note_braces(self, is_array, &d.initializer, d.name.at);
-        note_surplus(self, length, &d.initializer);
+        note_misfit(self, length, &d.initializer);
         Ok(length_or_1(is_array, length))
     }
 
