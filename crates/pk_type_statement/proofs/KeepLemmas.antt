@@ -3,15 +3,16 @@ use Rattle.std.proofs.Common.{◌≡◌, ℤ, pos, List, [], ◌∷◌, Option, 
 use Rattle.pk_ctypes.specs.declared.places.Pos.{Pos}
 use Rattle.pk_ast.specs.declared.declarations.Specifier.{Specifier}
 use Rattle.pk_ast.specs.declared.expressions.Identifier.{Identifier}
-use Rattle.pk_ast.specs.Trees.{OneOrMore, EnumeratorTree, EnumerationTree, ExpressionTree, ExpressionTrees, no_expressions, expression_then, InitializerTree, single, braced, DeclaratorTree, DeclarationTree, ForStartTree, declaration, expression, StatementTree, block, empty, expression_statement, label, case, default, if_then, if_else, switch, while, do_while, for_loop, goto, continue, break, return, ItemTrees, no_items, declaration_then, statement_then}
+use Rattle.pk_ast.specs.Trees.{OneOrMore, EnumeratorTree, EnumerationTree, ExpressionTree, ExpressionTrees, no_expressions, expression_then, InitializerTree, single, braced, DimensionsTree, DeclaratorTree, DeclarationTree, ForStartTree, declaration, expression, StatementTree, block, empty, expression_statement, label, case, default, if_then, if_else, switch, while, do_while, for_loop, goto, continue, break, return, ItemTrees, no_items, declaration_then, statement_then}
 use Rattle.pk_type_scope.specs.declared.declarations.Typing.{Typing}
 use Rattle.pk_type_scope.specs.Scopes.{Scoping}
 use Rattle.pk_type_scope.specs.Specifiers.{type_name_among}
 use Rattle.pk_type_declaration.specs.declared.words.Words.{Words}
-use Rattle.pk_type_declaration.specs.Declarations.{after_declarator, after_declarators, after_optional_length, after_initializer, after_head}
+use Rattle.pk_type_declaration.specs.Declarations.{after_declarator, after_declarators, after_columns, after_dimensions, after_initializer, after_head}
 use Rattle.pk_type_declaration.specs.Enumerations.{words_at, after_tag, next_number, enumerator_value, after_enumerator_value, after_enumerator, after_enumerators, after_words}
-use Rattle.pk_type_declaration.specs.Constants.{after_constant}
-use Rattle.pk_type_declaration.specs.Starts.{after_numbers, given}
+use Rattle.pk_type_declaration.specs.Constants.{after_constant, after_length}
+use Rattle.pk_type_declaration.specs.Initializers.{given}
+use Rattle.pk_type_declaration.specs.Starts.{after_numbers}
 use Rattle.pk_type_declaration.specs.Statics.{after_static_head, after_static, after_statics, after_declaration, after_static_declaration, after_block_declaration}
 use Rattle.pk_type_declaration.specs.Walks.{Walked, Adding, here, after_value}
 use Rattle.pk_type_statement.specs.Statements as statements
@@ -27,19 +28,23 @@ same s = record { text = refl; outer = refl }
 then : (s t u : Scoping) → Kept s t → Kept t u → Kept s u
 then s t u a b = record { text = b.text ∙ a.text; outer = b.outer ∙ a.outer }
 
-kept_length : {F : Type 0} (add : Adding F) (e : Option ExpressionTree) (w : Walked F) → Kept w.scoping (after_optional_length add e w).scoping
-kept_length add None w = same w.scoping
-kept_length add (Some e) w = same w.scoping
+kept_columns : {F : Type 0} (add : Adding F) (at : Pos) (e : Option ExpressionTree) (w : Walked F) → Kept w.scoping (after_columns add at e w).scoping
+kept_columns add at None w = same w.scoping
+kept_columns add at (Some e) w = same w.scoping
+
+kept_dimensions : {F : Type 0} (add : Adding F) (at : Pos) (d : Option DimensionsTree) (w : Walked F) → Kept w.scoping (after_dimensions add at d w).scoping
+kept_dimensions add at None w = same w.scoping
+kept_dimensions add at (Some d) w = kept_columns add at d.columns (after_length add d.length w)
 
 kept_initializer : {F : Type 0} (add : Adding F) (i : Option InitializerTree) (w : Walked F) → Kept w.scoping (after_initializer add i w).scoping
 kept_initializer add None w = same w.scoping
 kept_initializer add (Some (single e)) w = same w.scoping
-kept_initializer add (Some (braced at e es)) w = same w.scoping
+kept_initializer add (Some (braced at is)) w = same w.scoping
 
 kept_declarator : {F : Type 0} (add : Adding F) (words : Words) (d : DeclaratorTree) (w : Walked F) → Kept w.scoping (after_declarator add words d w).scoping
 unfolding after_declarator
 kept_declarator add words d w =
-    let k = kept_length add d.length w in
+    let k = kept_dimensions add d.name.at d.dimensions w in
     then w.scoping (after_head add words d w).scoping _ (record { text = k.text; outer = k.outer }) (kept_initializer add d.initializer (after_head add words d w))
 
 kept_declarators : {F : Type 0} (add : Adding F) (words : Words) (ds : List DeclaratorTree) (w : Walked F) → Kept w.scoping (after_declarators add words ds w).scoping
@@ -86,7 +91,7 @@ kept_numbers add (expression_then e es) w = kept_numbers add es (after_constant 
 kept_static : {F : Type 0} (add : Adding F) (words : Words) (d : DeclaratorTree) (w : Walked F) → Kept w.scoping (after_static add words d w).scoping
 unfolding after_static
 kept_static add words d w =
-    let k = kept_length add d.length w in
+    let k = kept_dimensions add d.name.at d.dimensions w in
     then w.scoping (after_static_head add words d w).scoping _ (record { text = k.text; outer = k.outer }) (kept_numbers add (given d.initializer) (after_static_head add words d w))
 
 kept_statics : {F : Type 0} (add : Adding F) (words : Words) (ds : List DeclaratorTree) (w : Walked F) → Kept w.scoping (after_statics add words ds w).scoping
