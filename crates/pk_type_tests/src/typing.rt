@@ -297,7 +297,22 @@ int a;int t[3];const int k=1;const int c[2]={1,2};void v(void);int f(int p);int 
 int a;int t[3];const int k=1;const int c[2]={1,2};void v(void);int f(int p);int g(int p,int q);void h(void){int x[1]={f(1,2),3};} => arguments 1:119
 int a;int t[3];const int k=1;const int c[2]={1,2};void v(void);int f(int p);int g(int p,int q);void h(void){int x[2]={a,a,a};} => initialiser 1:123
 int a;int t[3];const int k=1;const int c[2]={1,2};void v(void);int f(int p);int g(int p,int q);void h(void){for(int x[1]={1,2};;);} => initialiser 1:125
-int a;int t[3];const int k=1;const int c[2]={1,2};void v(void);int f(int p);int g(int p,int q);void h(void){int x[0]={1,2};} => constant 1:115",
+int a;int t[3];const int k=1;const int c[2]={1,2};void v(void);int f(int p);int g(int p,int q);void h(void){int x[0]={1,2};} => constant 1:115
+int x[2]={{1},{2}}; => initialiser 1:11
+int x[2]={1,{2}}; => initialiser 1:13
+int x[1]={1,{2}}; => initialiser 1:13
+int x[1]={{1},2}; => initialiser 1:11
+int x[1]={1,2,{3}}; => initialiser 1:13
+int x[3]={1,{2},{3}}; => initialiser 1:13
+int x={{1}}; => array 1:5
+int main(void){int a[2]={{1},{2}};return 0;} => initialiser 1:26
+int main(void){int a[2]={1,{2}};return 0;} => initialiser 1:28
+int main(void){int x={{1}};return 0;} => array 1:20
+int main(void){static int x[2]={1,{2}};return 0;} => initialiser 1:35
+int main(void){static int x={{1}};return 0;} => array 1:27
+int main(void){int x[2]={1,{2,y}};return 0;} => initialiser 1:28
+int main(void){int x[2]={y,{2}};return 0;} => undeclared 1:26
+int main(void){int x[0]={{1}};return 0;} => constant 1:22",
     // On places.
     "int a;int t[3];const int k=1;const int c[2]={1,2};void v(void);int f(int p);int g(int p,int q);void h(void){1=2;} => place 1:110
 int a;int t[3];const int k=1;const int c[2]={1,2};void v(void);int f(int p);int g(int p,int q);void h(void){f(1)=2;} => place 1:113
