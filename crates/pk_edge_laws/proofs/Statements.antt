@@ -31,7 +31,8 @@ use Rattle.pk_lower_statement.specs.Statements as statements
 use Rattle.pk_lower_statement.specs.Statements.{named, introduced, item, items, declared, all_declared, returned, performed_if, for_start, for_test, inside, in_switch, if_draft, loop_begun, while_draft, do_draft, for_draft, case_test, case_tests, tested, switch_begun, lowered, lowered_items}
 use Rattle.pk_visits.proofs.Settled.Trees.{mark_point}
 use Rattle.pk_visits.proofs.Grows.Statements.{IsMark, label_once, case_once}
-use Rattle.pk_edge_laws.specs.Edges.{IsNew, region_at, IsSame, IsLeftOut, IsTaken, IsMade, SplitsBy, GoesBy, NoPoint, IsOneOf, GoesOn, Goes, AreSized, IsExit, StatementsStay, IsPartOf, IsEnteredAt, LoopsAreEntered}
+use Rattle.pk_edge_laws.specs.Jumps.{gotos, gotos_in, HasNoCase}
+use Rattle.pk_edge_laws.specs.Edges.{IsNew, region_at, IsSame, IsLeftOut, IsTaken, IsMade, SplitsBy, GoesBy, NoPoint, IsOneOf, GoesOn, Goes, AreSized, IsExit, StatementsStay, IsLabelIn, IsInLoop, IsPartOf, IsEnteredAt, LoopsAreEntered}
 use Rattle.pk_edge_laws.proofs.Goes.{splits_from, splits_then, goes_then, reserving, going_on, one_edge, next_out, one_more, loosened}
 use Rattle.pk_edge_laws.proofs.Rows.{Makes, Chooses, goes_trans, goes_refl, emit_goes, guards_split, held_goes}
 use Rattle.pk_edge_laws.proofs.Expressions.{front_sized, back_sized, values, effects}
@@ -271,12 +272,20 @@ switch_goes M N s t zs b body x k h =
 
 -- ---- statements
 
--- the exits are ends
-pub record AreEnds (N : ℕ → Type 0) (m : Marks) (x : Exits) : Type 0 where
+-- the exits are ends, and of the labels those to which gotos lead
+pub record AreEnds (N : ℕ → Type 0) (m : Marks) (x : Exits) (t : ℕ → ℕ) : Type 0 where
   pub broken : N x.broken
   pub continued : N x.continued
   pub left : N x.left
-  pub labels : (l : ℕ) → l < m.labels → N (x.labels + l)
+  pub labels : (l : ℕ) → l < m.labels → (t l ≡ 0 → ⊥) → N (x.labels + l)
+
+fewer_ends : (N : ℕ → Type 0) (x : Exits) (m : Marks) (t u : ℕ → ℕ) → ((l : ℕ) → t l ≤ u l) → AreEnds N m x u → AreEnds N m x t
+fewer_ends N x m t u le e = record {
+  broken = e.broken;
+  continued = e.continued;
+  left = e.left;
+  labels = λ l h some. e.labels l h (λ none. some (let i = le l in omega (arith, i, none)));
+}
 
 -- the marks that stand there are named, and ends
 abbrev pub AreNamed : (M N : ℕ → Type 0) → Exits → Marks → (Mark → ℕ) → Type 0
@@ -285,8 +294,8 @@ AreNamed M N x m t = (b : Mark) → IsMark m b → (t b ≡ 0 → ⊥) → M (ma
 fewer : (M N : ℕ → Type 0) (x : Exits) (m : Marks) (t u : Mark → ℕ) → ((b : Mark) → t b ≤ u b) → AreNamed M N x m u → AreNamed M N x m t
 fewer M N x m t u le h b is some = h b is (λ none. some (let i = le b in omega (arith, i, none)))
 
-wider_ends : (N : ℕ → Type 0) (n c b k : ℕ) (m : Marks) (x : Exits) → IsNew n (n + c) b → IsNew n (n + c) k → AreEnds N m x → AreEnds (New N n c) m (inside b k x)
-wider_ends N n c b k m x i j e = record { broken = inr i; continued = inr j; left = inl e.left; labels = λ l h. inl (e.labels l h) }
+wider_ends : (N : ℕ → Type 0) (n c b k : ℕ) (m : Marks) (x : Exits) (t : ℕ → ℕ) → IsNew n (n + c) b → IsNew n (n + c) k → AreEnds N m x t → AreEnds (New N n c) m (inside b k x) t
+wider_ends N n c b k m x t i j e = record { broken = inr i; continued = inr j; left = inl e.left; labels = λ l h some. inl (e.labels l h some) }
 
 wider_marks : (M N : ℕ → Type 0) (n c : ℕ) (x : Exits) (m : Marks) (t : Mark → ℕ) → AreNamed M N x m t → AreNamed (New M n c) (New N n c) x m t
 wider_marks M N n c x m t h b is some = let r = h b is some in (inl r.0, inl r.1)
@@ -296,11 +305,11 @@ inside_marks M N n c i j x m t h (labelled l) is some = let r = h (labelled l) i
 inside_marks M N n c i j x m t h (numbered k) is some = let r = h (numbered k) is some in (inl r.0, inl r.1)
 inside_marks M N n c i j x m t h otherwise is some = let r = h otherwise is some in (inl r.0, inl r.1)
 
-plain_ends : (N : ℕ → Type 0) (n c : ℕ) (m : Marks) (x : Exits) → AreEnds N m x → AreEnds (New N n c) m x
-plain_ends N n c m x e = record { broken = inl e.broken; continued = inl e.continued; left = inl e.left; labels = λ l h. inl (e.labels l h) }
+plain_ends : (N : ℕ → Type 0) (n c : ℕ) (m : Marks) (x : Exits) (t : ℕ → ℕ) → AreEnds N m x t → AreEnds (New N n c) m x t
+plain_ends N n c m x t e = record { broken = inl e.broken; continued = inl e.continued; left = inl e.left; labels = λ l h some. inl (e.labels l h some) }
 
-switch_ends : (N : ℕ → Type 0) (n k c : ℕ) (b : Bool) (m : Marks) (x : Exits) → n < n + c → AreEnds N m x → AreEnds (New N n c) (WellTyped.in_switch k b m) (in_switch n k x)
-switch_ends N n k c b m x some e = record { broken = inr (omega arith, some); continued = inl e.continued; left = inl e.left; labels = λ l h. inl (e.labels l h) }
+switch_ends : (N : ℕ → Type 0) (n k c : ℕ) (b : Bool) (m : Marks) (x : Exits) (t : ℕ → ℕ) → n < n + c → AreEnds N m x t → AreEnds (New N n c) (WellTyped.in_switch k b m) (in_switch n k x) t
+switch_ends N n k c b m x t some e = record { broken = inr (omega arith, some); continued = inl e.continued; left = inl e.left; labels = λ l h some. inl (e.labels l h some) }
 
 switch_marks : (M N : ℕ → Type 0) (n : ℕ) (zs : List ℤ) (b : Bool) (x : Exits) (m : Marks) (t : Mark → ℕ) → AreNamed M N x m (λ q. marks.in_switch q (t q)) → AreNamed (New M n (ends_of zs b)) (New N n (ends_of zs b)) (in_switch n (length zs) x) (WellTyped.in_switch (length zs) b m) t
 switch_marks M N n zs b x m t h (labelled l) is some = let r = h (labelled l) is some in (inl r.0, inl r.1)
@@ -309,9 +318,9 @@ switch_marks M N n zs true x m t h otherwise is some = (inr (omega arith, omega 
 switch_marks M N n zs false x m t h otherwise is some = absurd (cc is)
 
 mutual
-  unfolding lowered lowered_items IsStatement AreItems calls_in_statement calls_in_items times times_in
+  unfolding lowered lowered_items IsStatement AreItems calls_in_statement calls_in_items times times_in gotos gotos_in
 
-  pub statement_goes : (V : Type 0) (z : ℕ → ℕ) (M N : ℕ → Type 0) (c : Context) (a : Around) (m : Marks) (s : StatementTree) (x : Exits) (d : DraftOf V) → IsStatement a m s → AreSized z c (calls_in_statement s) → AreEnds N m x → AreNamed M N x m (λ b. times b s) → GoesOn z M N d (lowered c s x d)
+  pub statement_goes : (V : Type 0) (z : ℕ → ℕ) (M N : ℕ → Type 0) (c : Context) (a : Around) (m : Marks) (s : StatementTree) (x : Exits) (d : DraftOf V) → IsStatement a m s → AreSized z c (calls_in_statement s) → AreEnds N m x (λ l. gotos l s) → AreNamed M N x m (λ b. times b s) → GoesOn z M N d (lowered c s x d)
   statement_goes V z M N c a m (tree.block p is) x d f called e h = items_of V z M N c a m is x d f called e h
   statement_goes V z M N c a m (tree.empty p) x d f called e h = with_more M N (goes_refl d)
   statement_goes V z M N c a m (tree.effect p v) x d f called e h = with_more M N (effects V z c v called (on p d))
@@ -328,15 +337,16 @@ mutual
       let K = New M d.points 2 in
       let L = New N d.points 2 in
       if_goes M N p (ways c v) (lowered c s x) (λ r. r) d (values V z c v (front_sized z c (calls_in v) (calls_in_statement s) called)).choice
-      (λ r. statement_goes V z K L c a m s x r f.1 (back_sized z c (calls_in v) (calls_in_statement s) called) (plain_ends N d.points 2 m x e) (wider_marks M N d.points 2 x m (λ b. times b s) h)) (λ r. with_more K L (goes_refl r))
+      (λ r. statement_goes V z K L c a m s x r f.1 (back_sized z c (calls_in v) (calls_in_statement s) called) (plain_ends N d.points 2 m x (λ l. gotos l s) e) (wider_marks M N d.points 2 x m (λ b. times b s) h)) (λ r. with_more K L (goes_refl r))
   statement_goes V z M N c a m (tree.if_else p v s r) x d f called e h =
       let K = New M d.points 2 in
       let L = New N d.points 2 in
       let k1 = front_sized z c (calls_in v ++ calls_in_statement s) (calls_in_statement r) called in
       let w = λ (b : Mark). times b s + times b r in
+      let g = λ (l : ℕ). gotos l s + gotos l r in
       if_goes M N p (ways c v) (lowered c s x) (lowered c r x) d (values V z c v (front_sized z c (calls_in v) (calls_in_statement s) k1)).choice
-      (λ g. statement_goes V z K L c a m s x g f.1 (back_sized z c (calls_in v) (calls_in_statement s) k1) (plain_ends N d.points 2 m x e) (wider_marks M N d.points 2 x m (λ b. times b s) (fewer M N x m (λ b. times b s) w (λ b. omega arith) h)))
-      (λ g. statement_goes V z K L c _ m r x g f.2 (back_sized z c (calls_in v ++ calls_in_statement s) (calls_in_statement r) called) (plain_ends N d.points 2 m x e) (wider_marks M N d.points 2 x m (λ b. times b r) (fewer M N x m (λ b. times b r) w (λ b. omega arith) h)))
+      (λ o. statement_goes V z K L c a m s x o f.1 (back_sized z c (calls_in v) (calls_in_statement s) k1) (plain_ends N d.points 2 m x (λ l. gotos l s) (fewer_ends N x m (λ l. gotos l s) g (λ l. omega arith) e)) (wider_marks M N d.points 2 x m (λ b. times b s) (fewer M N x m (λ b. times b s) w (λ b. omega arith) h)))
+      (λ o. statement_goes V z K L c _ m r x o f.2 (back_sized z c (calls_in v ++ calls_in_statement s) (calls_in_statement r) called) (plain_ends N d.points 2 m x (λ l. gotos l r) (fewer_ends N x m (λ l. gotos l r) g (λ l. omega arith) e)) (wider_marks M N d.points 2 x m (λ b. times b r) (fewer M N x m (λ b. times b r) w (λ b. omega arith) h)))
   statement_goes V z M N c a m (tree.switch p t v zs b s) x d f called e h =
       let o = on p d in
       let r = (ways c v).value o in
@@ -344,15 +354,15 @@ mutual
       let n = k.1.points in
       let valued = goes_trans ((values V z c v (front_sized z c (calls_in v) (calls_in_statement s) called)).value o) (held_goes Strong (converted_shape (type_of v) t (shape_of v)) t (conversion (type_of v) t r.0, r.1)) in
       goes_then (with_more M N valued) (switch_goes M N (site c p) t zs b (lowered c s) x k
-      (λ u. statement_goes V z (New M n (ends_of zs b)) (New N n (ends_of zs b)) c a (WellTyped.in_switch (length zs) b m) s (in_switch n (length zs) x) u f.2 (back_sized z c (calls_in v) (calls_in_statement s) called) (switch_ends N n (length zs) (ends_of zs b) b m x (omega arith) e) (switch_marks M N n zs b x m (λ q. times q s) h)))
+      (λ u. statement_goes V z (New M n (ends_of zs b)) (New N n (ends_of zs b)) c a (WellTyped.in_switch (length zs) b m) s (in_switch n (length zs) x) u f.2 (back_sized z c (calls_in v) (calls_in_statement s) called) (switch_ends N n (length zs) (ends_of zs b) b m x (λ l. gotos l s) (omega arith) e) (switch_marks M N n zs b x m (λ q. times q s) h)))
   statement_goes V z M N c a m (tree.while p v s) x d f called e h =
       let n = d.points in
       while_goes M N (ways c v) (lowered c s) x (on p d) (values V z c v (front_sized z c (calls_in v) (calls_in_statement s) called)).choice
-      (λ i j u w r. statement_goes V z (New M n 3) (New N n 3) c a m s (inside i j x) r f.1 (back_sized z c (calls_in v) (calls_in_statement s) called) (wider_ends N n 3 i j m x u w e) (inside_marks M N n 3 i j x m (λ b. times b s) h))
+      (λ i j u w r. statement_goes V z (New M n 3) (New N n 3) c a m s (inside i j x) r f.1 (back_sized z c (calls_in v) (calls_in_statement s) called) (wider_ends N n 3 i j m x (λ l. gotos l s) u w e) (inside_marks M N n 3 i j x m (λ b. times b s) h))
   statement_goes V z M N c a m (tree.do_while p s v) x d f called e h =
       let n = d.points in
       do_goes M N p (ways c v) (lowered c s) x (on p d) (values V z c v (back_sized z c (calls_in_statement s) (calls_in v) called)).choice
-      (λ i j u w r. statement_goes V z (New M n 3) (New N n 3) c a m s (inside i j x) r f.0 (front_sized z c (calls_in_statement s) (calls_in v) called) (wider_ends N n 3 i j m x u w e) (inside_marks M N n 3 i j x m (λ b. times b s) h))
+      (λ i j u w r. statement_goes V z (New M n 3) (New N n 3) c a m s (inside i j x) r f.0 (front_sized z c (calls_in_statement s) (calls_in v) called) (wider_ends N n 3 i j m x (λ l. gotos l s) u w e) (inside_marks M N n 3 i j x m (λ b. times b s) h))
   statement_goes V z M N c a m (tree.for_loop p g v third s) x d f called e h =
       let n = d.points in
       let k1 = front_sized z c (calls_at_start g ++ calls_if v ++ calls_in_effect_if third) (calls_in_statement s) called in
@@ -360,48 +370,75 @@ mutual
       for_goes M N p (for_start c g) (for_test c v) (performed_if c third) (lowered c s) x (on p d) (start_goes z c g (front_sized z c (calls_at_start g) (calls_if v) k2)) (test_splits z c v (back_sized z c (calls_at_start g) (calls_if v) k2))
       (performed_goes z c third (back_sized z c (calls_at_start g ++ calls_if v) (calls_in_effect_if third) k1))
       (λ k q new r. statement_goes V z (New (New M n 1) q 3) (New (New N n 1) q 3) c _ m s (inside n k x) r f.3 (back_sized z c (calls_at_start g ++ calls_if v ++ calls_in_effect_if third) (calls_in_statement s) called)
-      (record { broken = inl (inr (omega arith, omega arith)); continued = inr new; left = inl (inl e.left); labels = λ l i. inl (inl (e.labels l i)) })
+      (record { broken = inl (inr (omega arith, omega arith)); continued = inr new; left = inl (inl e.left); labels = λ l i some. inl (inl (e.labels l i some)) })
       (inside_marks (New M n 1) (New N n 1) q 3 n k x m (λ b. times b s) (wider_marks M N n 1 x m (λ b. times b s) h)))
-  statement_goes V z M N c a m (tree.goto p l) x d f called e h = away_goes N M (x.labels + l) (on p d) (e.labels l f)
+  statement_goes V z M N c a m (tree.goto p l) x d f called e h = away_goes N M (x.labels + l) (on p d) (e.labels l f (λ none. let i = label_once l 0 in absurd (omega (arith, none, i))))
   statement_goes V z M N c a m (tree.continue p) x d f called e h = away_goes N M x.continued (on p d) e.continued
   statement_goes V z M N c a m (tree.break p) x d f called e h = away_goes N M x.broken (on p d) e.broken
   statement_goes V z M N c a m (tree.return p v) x d f called e h = returned_goes z M N c x.left c.returns v e.left called (on p d)
 
-  pub items_of : (V : Type 0) (z : ℕ → ℕ) (M N : ℕ → Type 0) (c : Context) (a : Around) (m : Marks) (is : ItemTrees) (x : Exits) (d : DraftOf V) → AreItems a m is → AreSized z c (calls_in_items is) → AreEnds N m x → AreNamed M N x m (λ b. times_in b is) → GoesOn z M N d (lowered_items c is x d)
+  pub items_of : (V : Type 0) (z : ℕ → ℕ) (M N : ℕ → Type 0) (c : Context) (a : Around) (m : Marks) (is : ItemTrees) (x : Exits) (d : DraftOf V) → AreItems a m is → AreSized z c (calls_in_items is) → AreEnds N m x (λ l. gotos_in l is) → AreNamed M N x m (λ b. times_in b is) → GoesOn z M N d (lowered_items c is x d)
   items_of V z M N c a m tree.no_items x d f called e h = with_more M N (goes_refl d)
   items_of V z M N c a m (tree.declared_before v is) x d f called e h =
       goes_then (with_more M N (declared_goes z c v d (front_sized z c (calls_in_declared v) (calls_in_items is) called)))
       (items_of V z M N c _ m is x (declared c v d) f.1 (back_sized z c (calls_in_declared v) (calls_in_items is) called) e h)
   items_of V z M N c a m (tree.statement_before s is) x d f called e h =
       let w = λ (b : Mark). times b s + times_in b is in
-      goes_then (statement_goes V z M N c a m s x d f.0 (front_sized z c (calls_in_statement s) (calls_in_items is) called) e (fewer M N x m (λ b. times b s) w (λ b. omega arith) h))
-      (items_of V z M N c _ m is x (lowered c s x d) f.1 (back_sized z c (calls_in_statement s) (calls_in_items is) called) e (fewer M N x m (λ b. times_in b is) w (λ b. omega arith) h))
+      let g = λ (l : ℕ). gotos l s + gotos_in l is in
+      goes_then (statement_goes V z M N c a m s x d f.0 (front_sized z c (calls_in_statement s) (calls_in_items is) called) (fewer_ends N x m (λ l. gotos l s) g (λ l. omega arith) e) (fewer M N x m (λ b. times b s) w (λ b. omega arith) h))
+      (items_of V z M N c _ m is x (lowered c s x d) f.1 (back_sized z c (calls_in_statement s) (calls_in_items is) called) (fewer_ends N x m (λ l. gotos_in l is) g (λ l. omega arith) e) (fewer M N x m (λ b. times_in b is) w (λ b. omega arith) h))
 
 -- ---- the laws
 
 no_marks : (M N : ℕ → Type 0) (x : Exits) (m : Marks) (t : Mark → ℕ) → ((b : Mark) → t b ≡ 0) → AreNamed M N x m t
 no_marks M N x m t none b is some = absurd (some (none b))
 
-exits : (m : Marks) (x : Exits) → AreEnds (IsExit m x) m x
-exits m x = record { broken = inl refl; continued = inr (inl refl); left = inr (inr (inl refl)); labels = λ l h. inr (inr (inr (l, h, refl))) }
+exits : (m : Marks) (s : StatementTree) (x : Exits) → AreEnds (IsExit s x) m x (λ l. gotos l s)
+exits m s x = record { broken = inl refl; continued = inr (inl refl); left = inr (inr (inl refl)); labels = λ l h some. inr (inr (inr (l, some, refl))) }
 
 pub statements_stay : {V : Type 0} → StatementsStay V
-statements_stay {V} z c a m s x d f called none = statement_goes V z NoPoint (IsExit m x) c a m s x d f called (exits m x) (no_marks NoPoint (IsExit m x) x m (λ b. times b s) none)
+statements_stay {V} z c a m s x d f called none = statement_goes V z NoPoint (IsExit s x) c a m s x d f called (exits m s x) (no_marks NoPoint (IsExit s x) x m (λ b. times b s) none)
+
+-- ---- loops
+
+abbrev AnyPoint : ℕ → Type 0
+AnyPoint x = Unit {0}
+
+-- the points of the labels that stand in a statement
+abbrev pub Labels : Marks → Exits → StatementTree → ℕ → Type 0
+Labels m x s = IsLabelIn x.labels m.labels s
+
+-- inside a loop each point is an end
+any_ends : (n c : ℕ) (m : Marks) (x : Exits) (t : ℕ → ℕ) → AreEnds (New AnyPoint n c) m x t
+any_ends n c m x t = record { broken = inl tt; continued = inl tt; left = inl tt; labels = λ l h some. inl tt }
+
+-- and marks are labels
+any_marks : (m : Marks) (x : Exits) (s : StatementTree) → HasNoCase s → AreNamed (Labels m x s) AnyPoint x m (λ b. times b s)
+any_marks m x s none (labelled l) is some = ((l, is, some, refl), tt)
+any_marks m x s none (numbered i) is some = absurd (some (none.cases i))
+any_marks m x s none otherwise is some = absurd (some none.default)
+
+inside_any : (m : Marks) (x : Exits) (s : StatementTree) (n i j : ℕ) → HasNoCase s → AreNamed (New (Labels m x s) n 3) (New AnyPoint n 3) (inside i j x) m (λ b. times b s)
+inside_any m x s n i j none = inside_marks (Labels m x s) AnyPoint n 3 i j x m (λ b. times b s) (any_marks m x s none)
 
 -- an edge of the loop begins at its points, or it is the one from q to h
-abbrev Enters : {V : Type 0} → (q h l : ℕ) → EdgeFrom V → Type 0
-Enters q h l f = IsNew h l f.from ⊎ ((f.from ≡ q) × (f.to ≡ h))
+abbrev Enters : {V : Type 0} → (K : ℕ → Type 0) → (q h l : ℕ) → EdgeFrom V → Type 0
+Enters K q h l f = IsInLoop K h l f.from ⊎ ((f.from ≡ q) × (f.to ≡ h))
 
 -- where a form from the head on begins
-in_loop : {x : ℕ} (n l : ℕ) → n + 3 ≤ l → (x ≡ n) ⊎ (New NoPoint n 3 x ⊎ IsNew (n + 3) l x) → IsNew n l x
-in_loop n l more (inl e) = (omega (arith, e), omega (arith, e, more))
-in_loop n l more (inr (inl (inl never))) = absurd never
-in_loop n l more (inr (inl (inr k))) = let v = k.1 in (k.0, omega (arith, v, more))
-in_loop n l more (inr (inr k)) = let u = k.0 in (omega (arith, u), k.1)
+in_loop : (K : ℕ → Type 0) {x : ℕ} (n l : ℕ) → n + 3 ≤ l → (x ≡ n) ⊎ (New K n 3 x ⊎ IsNew (n + 3) l x) → IsInLoop K n l x
+in_loop K n l more (inl e) = inr (omega (arith, e), omega (arith, e, more))
+in_loop K n l more (inr (inl (inl k))) = inl k
+in_loop K n l more (inr (inl (inr k))) = let v = k.1 in inr (k.0, omega (arith, v, more))
+in_loop K n l more (inr (inr k)) = let u = k.0 in inr (omega (arith, u), k.1)
 
--- what is made from the head on begins there or behind it, and one edge leads to it
-begun_again : {V : Type 0} {z : ℕ → ℕ} {N : ℕ → Type 0} (d e : DraftOf V) → SplitsBy z (New NoPoint d.points 3) N d.points (d.points + 3) (loop_begun d).edges d.regions e.points e.edges e.regions → (f : EdgeFrom V) → Contains e.edges f → Contains d.edges f ⊎ Enters d.point d.points e.points f
-begun_again {V} {z} {N} d e a f h = by (a.edges f h) where
+-- what is made from the head on, in the loop
+abbrev Turned : {V : Type 0} → (z : ℕ → ℕ) → (K : ℕ → Type 0) → DraftOf V → DraftOf V → Type 0
+Turned z K d e = SplitsBy z (New K d.points 3) (New AnyPoint d.points 3) d.points (d.points + 3) (loop_begun d).edges d.regions e.points e.edges e.regions
+
+-- begins there or behind it, or at a label, and one edge leads to it
+begun_again : {V : Type 0} (z : ℕ → ℕ) (K : ℕ → Type 0) (d e : DraftOf V) → Turned z K d e → (f : EdgeFrom V) → Contains e.edges f → Contains d.edges f ⊎ Enters K d.point d.points e.points f
+begun_again {V} z K d e a f h = by (a.edges f h) where
   n : ℕ
   n = d.points
 
@@ -414,95 +451,91 @@ begun_again {V} {z} {N} d e a f h = by (a.edges f h) where
   first : EdgeFrom V
   first = record { from = d.point; instr = Skip; to = n }
 
-  old : Contains d.edges f ⊎ (first ≡ f) → Contains d.edges f ⊎ Enters d.point n l f
+  old : Contains d.edges f ⊎ (first ≡ f) → Contains d.edges f ⊎ Enters K d.point n l f
   old (inl k) = inl k
   old (inr s) = inr (inr (subst (λ (g : EdgeFrom V). (g.from ≡ d.point) × (g.to ≡ n)) s (refl, refl)))
 
-  by : Contains (loop_begun d).edges f ⊎ IsMade z (New NoPoint n 3) N n (n + 3) d.regions l e.regions f → Contains d.edges f ⊎ Enters d.point n l f
+  by : Contains (loop_begun d).edges f ⊎ IsMade z (New K n 3) (New AnyPoint n 3) n (n + 3) d.regions l e.regions f → Contains d.edges f ⊎ Enters K d.point n l f
   by (inl k) = old (Contains-push_cases d.edges first f k)
-  by (inr k) = inr (inl (in_loop n l more k.begins))
+  by (inr k) = inr (inl (in_loop K n l more k.begins))
 
 -- and so do the parts of paths that are called
-within : {V : Type 0} {z : ℕ → ℕ} {N : ℕ → Type 0} (d e : DraftOf V) → SplitsBy z (New NoPoint d.points 3) N d.points (d.points + 3) (loop_begun d).edges d.regions e.points e.edges e.regions → (j : ℕ) → IsSame d.regions e.regions j ⊎ IsPartOf d.points e.points (z j) (region_at e.regions j)
-within {z = z} d e a j = elim (a.regions j) [
+within : {V : Type 0} (z : ℕ → ℕ) (K : ℕ → Type 0) (n : ℕ) (d e : DraftOf V) → Turned z K d e → (j : ℕ) → IsSame d.regions e.regions j ⊎ IsPartOf K n d.points e.points (z j) (region_at e.regions j)
+within z K n d e a j = elim (a.regions j) [
   | inl k ↦ inl k
-  | inr t ↦ inr (inr (in_loop d.points e.points a.points t.begins, (let u = t.from in omega (arith, u)), t.to))
+  | inr t ↦ inr (inr (in_loop K d.points e.points a.points t.begins, (let u = t.from in omega (arith, u)), t.to))
 ]
 
--- before it is a first part
-behind_start : {V : Type 0} {z : ℕ → ℕ} {p n : ℕ} (d b e : DraftOf V) (q h l : ℕ) → n ≤ h → SplitsBy z NoPoint NoPoint p n d.edges d.regions h b.edges b.regions → ((f : EdgeFrom V) → Contains e.edges f → Contains b.edges f ⊎ Enters q h l f)
-    → (f : EdgeFrom V) → Contains e.edges f → Contains d.edges f ⊎ ((f.to ≡ 0) ⊎ (IsNew h l f.from ⊎ (IsNew h l f.to → (f.from ≡ q) × (f.to ≡ h))))
-behind_start {V} {z} {p} {n} d b e q h l le a k f c = by (k f c) where
-  Out : Type 0
-  Out = Contains d.edges f ⊎ ((f.to ≡ 0) ⊎ (IsNew h l f.from ⊎ (IsNew h l f.to → (f.from ≡ q) × (f.to ≡ h))))
-
-  made : (f.to ≡ 0) ⊎ (NoPoint f.to ⊎ (IsNew n h f.to × IsLeftOut z d.regions b.regions f.to)) → Out
-  made (inl none) = inr (inl none)
-  made (inr (inl never)) = absurd never
-  made (inr (inr j)) = inr (inr (inr (λ i. let u = i.0 in let v = j.0.1 in absurd (omega (arith, u, v)))))
-
-  first : Contains d.edges f ⊎ IsMade z NoPoint NoPoint p n d.regions h b.regions f → Out
-  first (inl i) = inl i
-  first (inr i) = made i.leads
-
-  by : Contains b.edges f ⊎ Enters q h l f → Out
-  by (inl i) = first (a.edges f i)
-  by (inr (inl i)) = inr (inr (inl i))
-  by (inr (inr i)) = inr (inr (inr (λ new. i)))
-
-behind_regions : {V : Type 0} {z : ℕ → ℕ} {p n : ℕ} (d b e : DraftOf V) (h l : ℕ) → SplitsBy z NoPoint NoPoint p n d.edges d.regions h b.edges b.regions → ((j : ℕ) → IsSame b.regions e.regions j ⊎ IsPartOf h l (z j) (region_at e.regions j))
-    → (j : ℕ) → IsSame d.regions e.regions j ⊎ IsPartOf h l (z j) (region_at e.regions j)
-behind_regions {V} {z} {p} {n} d b e h l a k j = by (a.regions j) (k j) where
-  by : IsSame d.regions b.regions j ⊎ IsTaken NoPoint p n h (z j) (region_at b.regions j) → IsSame b.regions e.regions j ⊎ IsPartOf h l (z j) (region_at e.regions j) → IsSame d.regions e.regions j ⊎ IsPartOf h l (z j) (region_at e.regions j)
-  by (inl i) (inl o) = inl (o ∙ i)
-  by (inr t) (inl o) = inr (subst (IsPartOf h l (z j)) (sym o) (inl t.to))
-  by i (inr o) = inr o
-
-entered : {V : Type 0} (z : ℕ → ℕ) {N : ℕ → Type 0} (d e : DraftOf V) → SplitsBy z (New NoPoint d.points 3) N d.points (d.points + 3) (loop_begun d).edges d.regions e.points e.edges e.regions → IsEnteredAt z d e d.point d.points
-entered z d e a = record {
+entered : {V : Type 0} (z : ℕ → ℕ) (K : ℕ → Type 0) (d e : DraftOf V) → Turned z K d e → IsEnteredAt z K d e d.point d.points
+entered z K d e a = record {
   behind = omega arith;
   before = let more = a.points in omega (arith, more);
-  edges = λ f h. elim (begun_again d e a f h) [ inl i ↦ inl i | inr i ↦ inr (inr (elim i [ inl j ↦ inl j | inr j ↦ inr (λ new. j) ])) ];
-  regions = within d e a;
+  edges = λ f h. elim (begun_again z K d e a f h) [ inl i ↦ inl i | inr i ↦ inr (inr (elim i [ inl j ↦ inl j | inr j ↦ inr (inl j) ])) ];
+  regions = within z K d.points d e a;
 }
 
+-- behind a first part
+entered_behind : {V : Type 0} (z : ℕ → ℕ) (K : ℕ → Type 0) {p : ℕ} (d b e : DraftOf V) → SplitsBy z NoPoint NoPoint p (d.points + 1) d.edges d.regions b.points b.edges b.regions → Turned z K b e → IsEnteredAt z K d e b.point b.points
+entered_behind {V} z K {p} d b e a t = record {
+  behind = let start = a.points in omega (arith, start);
+  before = let more = t.points in omega (arith, more);
+  edges = λ f c. by f (begun_again z K b e t f c);
+  regions = λ j. beside j (a.regions j) (within z K d.points b e t j);
+} where
+  Out : EdgeFrom V → Type 0
+  Out f = Contains d.edges f ⊎ ((f.to ≡ 0) ⊎ (IsInLoop K b.points e.points f.from ⊎ (((f.from ≡ b.point) × (f.to ≡ b.points)) ⊎ IsNew d.points b.points f.to)))
+
+  made : (f : EdgeFrom V) → (f.to ≡ 0) ⊎ (NoPoint f.to ⊎ (IsNew (d.points + 1) b.points f.to × IsLeftOut z d.regions b.regions f.to)) → Out f
+  made f (inl none) = inr (inl none)
+  made f (inr (inl never)) = absurd never
+  made f (inr (inr j)) = let u = j.0.0 in inr (inr (inr (inr (omega (arith, u), j.0.1))))
+
+  first : (f : EdgeFrom V) → Contains d.edges f ⊎ IsMade z NoPoint NoPoint p (d.points + 1) d.regions b.points b.regions f → Out f
+  first f (inl i) = inl i
+  first f (inr i) = made f i.leads
+
+  by : (f : EdgeFrom V) → Contains b.edges f ⊎ Enters K b.point b.points e.points f → Out f
+  by f (inl i) = first f (a.edges f i)
+  by f (inr (inl i)) = inr (inr (inl i))
+  by f (inr (inr i)) = inr (inr (inr (inl i)))
+
+  beside : (j : ℕ) → IsSame d.regions b.regions j ⊎ IsTaken NoPoint p (d.points + 1) b.points (z j) (region_at b.regions j) → IsSame b.regions e.regions j ⊎ IsPartOf K d.points b.points e.points (z j) (region_at e.regions j)
+      → IsSame d.regions e.regions j ⊎ IsPartOf K d.points b.points e.points (z j) (region_at e.regions j)
+  beside j (inl i) (inl o) = inl (o ∙ i)
+  beside j (inr t) (inl o) = let u = t.from in inr (subst (IsPartOf K d.points b.points e.points (z j)) (sym o) (inl (omega (arith, u), t.to)))
+  beside j i (inr o) = inr o
+
 pub loops_are_entered : {V : Type 0} → LoopsAreEntered V
-unfolding lowered IsStatement calls_in_statement times
+unfolding lowered IsStatement calls_in_statement
 loops_are_entered {V} = record {
   while = λ z c a m p v s x d f called none.
       let n = d.points in
       let o = on p d in
-      let t = while_turns {z = z} NoPoint (IsExit m x) (ways c v) (lowered c s) x o (values V z c v (front_sized z c (calls_in v) (calls_in_statement s) called)).choice
-      (λ i j u w r. statement_goes V z (New NoPoint n 3) (New (IsExit m x) n 3) c a m s (inside i j x) r f.1 (back_sized z c (calls_in v) (calls_in_statement s) called) (wider_ends (IsExit m x) n 3 i j m x u w (exits m x)) (no_marks (New NoPoint n 3) (New (IsExit m x) n 3) (inside i j x) m (λ b. times b s) none)) in
-      let r = entered z o (while_draft (ways c v) (lowered c s) x o) t in
+      let K = Labels m x s in
+      let t = while_turns {z = z} K AnyPoint (ways c v) (lowered c s) x o (values V z c v (front_sized z c (calls_in v) (calls_in_statement s) called)).choice
+      (λ i j u w r. statement_goes V z (New K n 3) (New AnyPoint n 3) c a m s (inside i j x) r f.1 (back_sized z c (calls_in v) (calls_in_statement s) called) (any_ends n 3 m (inside i j x) (λ l. gotos l s)) (inside_any m x s n i j none)) in
+      let r = entered z K o (while_draft (ways c v) (lowered c s) x o) t in
       record { behind = r.behind; before = r.before; edges = r.edges; regions = r.regions };
   do_while = λ z c a m p s v x d f called none.
       let n = d.points in
       let o = on p d in
-      let t = do_turns {z = z} NoPoint (IsExit m x) p (ways c v) (lowered c s) x o (values V z c v (back_sized z c (calls_in_statement s) (calls_in v) called)).choice
-      (λ i j u w r. statement_goes V z (New NoPoint n 3) (New (IsExit m x) n 3) c a m s (inside i j x) r f.0 (front_sized z c (calls_in_statement s) (calls_in v) called) (wider_ends (IsExit m x) n 3 i j m x u w (exits m x)) (no_marks (New NoPoint n 3) (New (IsExit m x) n 3) (inside i j x) m (λ b. times b s) none)) in
-      let r = entered z o (do_draft p (ways c v) (lowered c s) x o) t in
+      let K = Labels m x s in
+      let t = do_turns {z = z} K AnyPoint p (ways c v) (lowered c s) x o (values V z c v (back_sized z c (calls_in_statement s) (calls_in v) called)).choice
+      (λ i j u w r. statement_goes V z (New K n 3) (New AnyPoint n 3) c a m s (inside i j x) r f.0 (front_sized z c (calls_in_statement s) (calls_in v) called) (any_ends n 3 m (inside i j x) (λ l. gotos l s)) (inside_any m x s n i j none)) in
+      let r = entered z K o (do_draft p (ways c v) (lowered c s) x o) t in
       record { behind = r.behind; before = r.before; edges = r.edges; regions = r.regions };
   for_loop = λ z c a m p g v third s x d f called none.
       let n = d.points in
       let o = on p d in
+      let K = Labels m x s in
       let k1 = front_sized z c (calls_at_start g ++ calls_if v ++ calls_in_effect_if third) (calls_in_statement s) called in
       let k2 = front_sized z c (calls_at_start g ++ calls_if v) (calls_in_effect_if third) k1 in
       let begin = start_goes z c g (front_sized z c (calls_at_start g) (calls_if v) k2) (fresh 1 o) in
       let b = on p (for_start c g (fresh 1 o)) in
       let h = b.points in
-      let t = for_turns {z = z} NoPoint (New (IsExit m x) n 1) p (for_test c v) (performed_if c third) (lowered c s) x n b (inr (omega arith, omega arith)) (test_splits z c v (back_sized z c (calls_at_start g) (calls_if v) k2))
+      let t = for_turns {z = z} K AnyPoint p (for_test c v) (performed_if c third) (lowered c s) x n b tt (test_splits z c v (back_sized z c (calls_at_start g) (calls_if v) k2))
       (performed_goes z c third (back_sized z c (calls_at_start g ++ calls_if v) (calls_in_effect_if third) k1))
-      (λ k new r. statement_goes V z (New NoPoint h 3) (New (New (IsExit m x) n 1) h 3) c _ m s (inside n k x) r f.3 (back_sized z c (calls_at_start g ++ calls_if v ++ calls_in_effect_if third) (calls_in_statement s) called)
-      (record { broken = inl (inr (omega arith, omega arith)); continued = inr new; left = inl (inl (exits m x).left); labels = λ l i. inl (inl ((exits m x).labels l i)) })
-      (no_marks (New NoPoint h 3) (New (New (IsExit m x) n 1) h 3) (inside n k x) m (λ q. times q s) none)) in
-      let e = for_draft p (for_start c g) (for_test c v) (performed_if c third) (lowered c s) x o in
-      let start = begin.splits.points in
-      let more = t.points in
-      record {
-        behind = omega (arith, start);
-        before = omega (arith, more);
-        edges = behind_start {z = z} d b e b.point h e.points start begin.splits (begun_again b e t);
-        regions = behind_regions {z = z} d b e h e.points begin.splits (within b e t);
-      };
+      (λ k new r. statement_goes V z (New K h 3) (New AnyPoint h 3) c _ m s (inside n k x) r f.3 (back_sized z c (calls_at_start g ++ calls_if v ++ calls_in_effect_if third) (calls_in_statement s) called) (any_ends h 3 m (inside n k x) (λ l. gotos l s)) (inside_any m x s h n k none)) in
+      let r = entered_behind z K o b (for_draft p (for_start c g) (for_test c v) (performed_if c third) (lowered c s) x o) begin.splits t in
+      record { behind = r.behind; before = r.before; edges = r.edges; regions = r.regions };
 }

@@ -1,5 +1,5 @@
 -- Where the edges that the lowering makes begin, and where they lead.
-use Rattle.std.specs.Prelude.{◌≡◌, ◌⊎◌, ℕ, ◌+◌, ◌<◌, ◌≤◌, List, [], ◌∷◌, Contains, Option, slice_index_or}
+use Rattle.std.specs.Prelude.{◌≡◌, ◌≢◌, ◌⊎◌, ℕ, ◌+◌, ◌<◌, ◌≤◌, List, [], ◌∷◌, Contains, Option, slice_index_or}
 use Rattle.pk_ctypes.specs.declared.places.Pos.{Pos}
 use Rattle.pk_typed.specs.Trees.{ValueTree, EffectTree, ForStartTree, StatementTree}
 use Rattle.pk_typed.specs.Trees as tree
@@ -9,11 +9,12 @@ use Rattle.pk_draft.specs.Drafts.{EdgeFrom, DraftOf, nowhere, no_region, fresh, 
 use Rattle.pk_welltyped.specs.Listed.{Numbered, calls_in, calls_in_effect, calls_in_statement}
 use Rattle.pk_welltyped.specs.WellTyped.{Around, Marks, IsStatement}
 use Rattle.pk_welltyped.specs.Marks.{times}
-use Rattle.pk_meaning.specs.Steps.{Mark}
+use Rattle.pk_meaning.specs.Steps.{Mark, labelled}
 use Rattle.pk_lower_row.specs.Contexts.{Context, callee, size_in}
 use Rattle.pk_lower_expression.specs.Expressions.{ways, performed}
 use Rattle.pk_lower_statement.specs.declared.statements.Exits.{Exits}
 use Rattle.pk_lower_statement.specs.Statements.{for_start, lowered}
+use Rattle.pk_edge_laws.specs.Jumps.{gotos, HasNoCase}
 
 -- from n on, and before m
 abbrev pub IsNew : (n m x : ℕ) → Type 0
@@ -97,50 +98,60 @@ pub record ExpressionsStay (V : Type 0) : Type 0 where
   pub effect : (z : ℕ → ℕ) (c : Context) (e : EffectTree) (d : DraftOf V) → AreSized z c (calls_in_effect e) →
       Goes z d (performed c e d)
 
--- a point to which a jump out of a statement may lead: of its `break`, `continue` and `return`, or of a label
-abbrev pub IsExit : Marks → Exits → ℕ → Type 0
-IsExit m x q =
-    (q ≡ x.broken) ⊎ ((q ≡ x.continued) ⊎ ((q ≡ x.left) ⊎ ((l : ℕ) × (l < m.labels) × (q ≡ x.labels + l))))
+-- a point to which a jump out of a statement may lead: of its `break`, `continue` and `return`, or of a label to which a goto stands in it
+abbrev pub IsExit : StatementTree → Exits → ℕ → Type 0
+IsExit s x q =
+    (q ≡ x.broken) ⊎ ((q ≡ x.continued) ⊎ ((q ≡ x.left) ⊎ ((l : ℕ) × (gotos l s ≢ 0) × (q ≡ x.labels + l))))
 
 -- The edges of a statement in which no label, case or default stands begin at the current point or at new ones, and lead to new ones or to its exits.
 abbrev pub StatementsStay : (V : Type 0) → Type 0
 StatementsStay V =
     (z : ℕ → ℕ) (c : Context) (a : Around) (m : Marks) (s : StatementTree) (x : Exits) (d : DraftOf V) →
     IsStatement a m s → AreSized z c (calls_in_statement s) → ((b : Mark) → times b s ≡ 0)
-    → GoesOn z NoPoint (IsExit m x) d (lowered c s x d)
+    → GoesOn z NoPoint (IsExit s x) d (lowered c s x d)
 
 -- ---- loops
 
--- the points from h to l have those of the region, and that at which its part begins; or it ends before them
-abbrev pub IsPartOf : (h l size : ℕ) → Region → Type 0
-IsPartOf h l n r = (r.points + n ≤ h) ⊎ (IsNew h l r.at × (h ≤ r.points) × (r.points + n ≤ l))
+-- the point of a label that stands in a statement, where the function's labels are so many, from the first on
+abbrev pub IsLabelIn : (first labels : ℕ) → StatementTree → ℕ → Type 0
+IsLabelIn first labels s q = (l : ℕ) × (l < labels) × (times (labelled l) s ≢ 0) × (q ≡ first + l)
 
--- Behind d the points from h on are entered at h alone, from q: an edge that begins before them leads to none of them, but from q to h.
-pub record IsEnteredAt {V : Type 0} (z : ℕ → ℕ) (d e : DraftOf V) (q h : ℕ) : Type 0 where
+-- a point of a loop: one of those of its labels, K, which are made with the function's, or from h on and before l
+abbrev pub IsInLoop : (K : ℕ → Type 0) → (h l x : ℕ) → Type 0
+IsInLoop K h l x = K x ⊎ IsNew h l x
+
+-- The region's points are before h, from n on, or from h to l, where its part begins at a point of the loop.
+abbrev pub IsPartOf : (K : ℕ → Type 0) → (n h l size : ℕ) → Region → Type 0
+IsPartOf K n h l size r =
+    ((n ≤ r.points) × (r.points + size ≤ h))
+    ⊎ (IsInLoop K h l r.at × (h ≤ r.points) × (r.points + size ≤ l))
+
+-- By what is added to d the points of a loop are entered at h alone, from q: an edge begins at one of them, leads from q to h, or leads to a new point before them.
+pub record IsEnteredAt {V : Type 0} (z : ℕ → ℕ) (K : ℕ → Type 0) (d e : DraftOf V) (q h : ℕ) : Type 0 where
   pub behind : d.points ≤ h
   pub before : h < e.points
   pub edges : (f : EdgeFrom V) → Contains e.edges f → Contains d.edges f
-      ⊎ ((f.to ≡ nowhere) ⊎ (IsNew h e.points f.from ⊎ (IsNew h e.points f.to → (f.from ≡ q) × (f.to ≡ h))))
-  pub regions : (j : ℕ) → IsSame d.regions e.regions j ⊎ IsPartOf h e.points (z j) (region_at e.regions j)
+      ⊎ ((f.to ≡ nowhere) ⊎ (IsInLoop K h e.points f.from ⊎ (((f.from ≡ q) × (f.to ≡ h)) ⊎ IsNew d.points h f.to)))
+  pub regions : (j : ℕ) → IsSame d.regions e.regions j
+      ⊎ IsPartOf K d.points h e.points (z j) (region_at e.regions j)
 
 -- behind the first part of a `for` at a place
 abbrev pub behind_first : {V : Type 0} → Context → ForStartTree → Pos → DraftOf V → DraftOf V
 behind_first c first p d = for_start c first (fresh 1 (on p d))
 
--- A loop in which no label, case or default stands is entered where it begins again: a `while` or `do` at its first new point, a `for` at the first behind its first part.
+-- Of what the lowering of a loop adds, in whose body no case or default of a switch around it stands, its points are entered where it begins again: those of a `while` or `do` at its first new point, of a `for` at the first behind its first part.
 pub record LoopsAreEntered (V : Type 0) : Type 0 where
   pub while : (z : ℕ → ℕ) (c : Context) (a : Around) (m : Marks) (p : Pos) (v : ValueTree) (s : StatementTree)
       (x : Exits) (d : DraftOf V) → IsStatement a m (tree.while p v s) →
-      AreSized z c (calls_in_statement (tree.while p v s)) → ((b : Mark) → times b (tree.while p v s) ≡ 0)
-      → IsEnteredAt z d (lowered c (tree.while p v s) x d) d.point d.points
+      AreSized z c (calls_in_statement (tree.while p v s)) → HasNoCase s
+      → IsEnteredAt z (IsLabelIn x.labels m.labels s) d (lowered c (tree.while p v s) x d) d.point d.points
   pub do_while : (z : ℕ → ℕ) (c : Context) (a : Around) (m : Marks) (p : Pos) (s : StatementTree) (v : ValueTree)
       (x : Exits) (d : DraftOf V) → IsStatement a m (tree.do_while p s v) →
-      AreSized z c (calls_in_statement (tree.do_while p s v)) → ((b : Mark) → times b (tree.do_while p s v) ≡ 0)
-      → IsEnteredAt z d (lowered c (tree.do_while p s v) x d) d.point d.points
+      AreSized z c (calls_in_statement (tree.do_while p s v)) → HasNoCase s
+      → IsEnteredAt z (IsLabelIn x.labels m.labels s) d (lowered c (tree.do_while p s v) x d) d.point d.points
   pub for_loop : (z : ℕ → ℕ) (c : Context) (a : Around) (m : Marks) (p : Pos) (first : ForStartTree)
       (v : Option ValueTree) (third : Option EffectTree) (s : StatementTree) (x : Exits) (d : DraftOf V) →
       IsStatement a m (tree.for_loop p first v third s) →
-      AreSized z c (calls_in_statement (tree.for_loop p first v third s)) →
-      ((b : Mark) → times b (tree.for_loop p first v third s) ≡ 0)
-      → IsEnteredAt z d (lowered c (tree.for_loop p first v third s) x d) (behind_first c first p d).point
-      (behind_first c first p d).points
+      AreSized z c (calls_in_statement (tree.for_loop p first v third s)) → HasNoCase s
+      → IsEnteredAt z (IsLabelIn x.labels m.labels s) d (lowered c (tree.for_loop p first v third s) x d)
+      (behind_first c first p d).point (behind_first c first p d).points

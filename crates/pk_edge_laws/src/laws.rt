@@ -12,7 +12,7 @@ pub fn statements_stay<V>()
     ensures { StatementsStay V }
 {}
 
-/// A loop in which nothing is jumped to is entered where it begins again.
+/// Of what the lowering of a loop adds, in which no case or default of a switch around it stands, edges lead into its points where it begins again alone.
 pub fn loops_are_entered<V>()
     ensures { LoopsAreEntered V }
 {}
