@@ -1,12 +1,11 @@
--- All parts of a unit: each plain loop of each path is entered where it begins again.
-use Rattle.std.proofs.Common.{◌≡◌, ℕ, zero, suc, ◌+◌, ◌<◌, List, [], ◌∷◌, Option, Some, length, refl, ap, sym, subst, ◌∙◌, arith, slice_index_or}
+-- All parts of a unit: each loop of each path into which nothing jumps is entered where it begins again.
+use Rattle.std.proofs.Common.{◌≡◌, ℕ, zero, suc, ◌+◌, ◌<◌, ◌⊎◌, inl, inr, List, [], ◌∷◌, Option, Some, length, refl, ap, sym, subst, ◌∙◌, arith, slice_index_or}
 use Rattle.std.proofs.lemmas.List.{length-map}
 use Rattle.std.proofs.lemmas.Option.{none-some, get_or_from_slice_get, slice_get_within}
 use Rattle.std.specs.List.{Contains}
 use Rattle.std.specs.Prelude.{slice_get, unwrap_or}
-use Rattle.std.specs.Option.{option_and_then}
 use Rattle.pk_ctypes.specs.declared.places.Pos.{Pos}
-use Rattle.pk_typed.specs.Trees.{BodyTree, FunctionTree, UnitTree}
+use Rattle.pk_typed.specs.Trees.{StatementTree, BodyTree, FunctionTree, UnitTree}
 use Rattle.pk_calls.specs.declared.listings.CallPath.{CallPath}
 use Rattle.pk_calls.specs.Calls as calls
 use Rattle.pk_calls.specs.Calls.{HasBody, calls_of}
@@ -15,6 +14,8 @@ use Rattle.pk_calls.specs.Paths.{entry_path, path_by, IsListing}
 use Rattle.pk_graph.specs.Graphs.{VariableOf}
 use Rattle.pk_welltyped.specs.Listed.{Numbered, calls_in_items}
 use Rattle.pk_welltyped.specs.WellTyped.{Around, IsUnit}
+use Rattle.pk_welltyped.specs.Marks.{times, IsMarked, IsMarkedIf, AreMarked}
+use Rattle.pk_meaning.specs.Steps.{labelled}
 use Rattle.pk_draft.specs.declared.drafts.Region.{Region}
 use Rattle.pk_draft.specs.declared.drafts.Size.{Size}
 use Rattle.pk_draft.specs.Drafts.{DraftOf, EdgeFrom, by_number, region_of, entry_point}
@@ -39,10 +40,13 @@ use Rattle.pk_visits.proofs.Slots.{Among}
 use Rattle.pk_visits.proofs.Stands.{IsCalled}
 use Rattle.pk_visits.proofs.Stages.{all_called}
 use Rattle.pk_visits.proofs.Grows.Expressions.{AllCalled}
+use Rattle.pk_visits_laws.proofs.Followed.Basics.{all_get}
 use Rattle.pk_visits_laws.proofs.Followed.Paths.{numbered_at}
-use Rattle.pk_edge_laws.specs.Edges.{region_at, HasPoints, AreSized}
-use Rattle.pk_loop_heads.specs.Loops.{HasPlainLoopIn}
+use Rattle.pk_edge_laws.specs.Edges.{region_at, IsBehindExit, HasPoints, AreSized, IsLabelIn, IsInLoop}
+use Rattle.pk_loop_heads.specs.Loops.{IsClosed, HasLoopIn}
+use Rattle.pk_loop_heads.specs.Laws.{IsPlainLoop}
 use Rattle.pk_loop_heads.proofs.Enters.{IsEntry, Enters}
+use Rattle.pk_loop_heads.proofs.Within.{KeepsAll}
 use Rattle.pk_loop_heads.proofs.Parts.{part_goes, part_turns}
 use Rattle.pk_loop_heads.proofs.Between.{IsKept, IsClear, IsApart, IsPart, clear_next, IsHeld, held_first, held_next}
 
@@ -202,69 +206,91 @@ is_apart W k n p h d plan j x le has i o =
 
 -- ---- all parts
 
--- a loop at this place begins again at a point that is told, at which it is entered alone
-pub record IsEntered {V : Type 0} (es : List (EdgeFrom V)) (at : Pos) (us : List TurnPoint) : Type 0 where
+-- a loop at this place with the body w begins again at a point that is told, at which it is entered alone
+pub record IsEntered {V : Type 0} (es : List (EdgeFrom V)) (w : StatementTree) (at : Pos) (us : List TurnPoint) : Type 0 where
   pub head : ℕ
   pub last : ℕ
   pub from : ℕ
+  pub first : ℕ
+  pub labels : ℕ
   pub told : Contains us (turning at head)
   pub low : entry_point < head
+  pub behind : entry_point < first
   pub some : head < last
-  pub edges : (f : EdgeFrom V) → Contains es f → IsEntry from head last f
+  pub edges : (f : EdgeFrom V) → Contains es f → IsEntry (IsInLoop (IsLabelIn first labels w) head last) from head f
 
 -- behind the loop's path
-parts_held : (W : World) → Lasting W → HaveExits W → (k n : ℕ) (ps : List CallPath) → Paths W k n ps → (d : Draft W) → Plan W k n d → (q h l : ℕ) → IsHeld (points_of W) k q h l d.edges d.regions
-    → (f : EdgeFrom W.table.Variable) → Contains (part.parts_from W.unit (sizes W) k n ps d).edges f → IsEntry q h l f
+parts_held : (W : World) → Lasting W → HaveExits W → (k n : ℕ) (ps : List CallPath) → Paths W k n ps → (d : Draft W) → Plan W k n d → (S : ℕ → Type 0) (q h : ℕ) → IsHeld (points_of W) k S q h d.edges d.regions
+    → (f : EdgeFrom W.table.Variable) → Contains (part.parts_from W.unit (sizes W) k n ps d).edges f → IsEntry S q h f
 unfolding part.parts_from
-parts_held W l some k n [] h d plan q i m held f c = held.edges f c
-parts_held W l some k n (p ∷ ps) h d plan q i m held f c =
-    parts_held W l some (k + 1) (n + length (calls_of W.unit p.function)) ps h.1 (part_at W k n p d) (next_part W l k n p h.0 d plan) q i m
+parts_held W l some k n [] h d plan S q i held f c = held.edges f c
+parts_held W l some k n (p ∷ ps) h d plan S q i held f c =
+    parts_held W l some (k + 1) (n + length (calls_of W.unit p.function)) ps h.1 (part_at W k n p d) (next_part W l k n p h.0 d plan) S q i
     (held_next (is_kept W k n p h.0 d plan) (part_ends W l k n p h.0 d) (is_part W some k n p h.0 d) held) f c
 
--- a function with such a body
-abbrev pub HasLoop : UnitTree → List CallPath → (i : ℕ) → Pos → Type 0
-HasLoop u ps i at = (b : BodyTree) × (option_and_then (λ (p : CallPath). calls.body_of u p.function) (slice_get ps i) ≡ Some b) × HasPlainLoopIn at b.items
+none_or_some : (n : ℕ) → (n ≡ 0) ⊎ (0 < n)
+none_or_some n = grind arith
 
-pub parts_entered : (W : World) → Lasting W → HaveExits W → (k n : ℕ) (ps : List CallPath) → Paths W k n ps → (d : Draft W) → Plan W k n d → IsClear (points_of W) k d.edges d.regions → (i : ℕ) (at : Pos) → HasLoop W.unit ps i at
-    → IsEntered (part.parts_from W.unit (sizes W) k n ps d).edges at (slice_index_or (turns_from W.unit (sizes W) k n ps d) i [])
+-- into which nothing jumps: since each label stands once, b's own stand in it alone
+closed_keeps : (b : BodyTree) (w : StatementTree) → IsMarked b → IsClosed b.items w → KeepsAll b.labels w b.items
+closed_keeps b w marked closed l less some =
+    let same = closed.labels l some in
+    let once = marked.labels l less in
+    (omega (arith, same), elim (none_or_some (times (labelled l) w)) [ inl none ↦ absurd (some none) | inr one ↦ omega (arith, once, one) ])
+
+pub parts_entered : (W : World) → Lasting W → HaveExits W → AreMarked W.unit → (k n : ℕ) (ps : List CallPath) → Paths W k n ps → (d : Draft W) → Plan W k n d → IsClear (points_of W) k d.edges d.regions → (i : ℕ) (at : Pos) (has : IsPlainLoop W.unit ps i at)
+    → IsEntered (part.parts_from W.unit (sizes W) k n ps d).edges has.inner at (slice_index_or (turns_from W.unit (sizes W) k n ps d) i [])
 unfolding part.parts_from turns_from
-parts_entered W l some k n [] h d plan clear i at has = absurd (none-some has.0 has.1)
-parts_entered W l some k n (p ∷ ps) h d plan clear zero at has =
+parts_entered W l some marked k n [] h d plan clear i at has = absurd (none-some has.body has.is_body)
+parts_entered W l some marked k n (p ∷ ps) h d plan clear zero at has =
     let z = points_of W in
     let one = h.0 in
     let c = context_at W k n p in
     let r = region_at d.regions k in
     let e = part_at W k n p d in
-    let body : one.body ≡ has.0 = ap (λ (o : Option BodyTree). unwrap_or o has.0) (sym (its_body W.unit p.function one.function one.body one.there one.has) ∙ has.1) in
-    let loop : HasPlainLoopIn at one.body.items = subst (λ (b : BodyTree). HasPlainLoopIn at b.items) (sym body) has.2 in
-    let turns = part_turns z at c one.function one.body p.caller r (around W one) d one.is_body.items (sized W some k n p one) loop in
-    let enters = subst (λ (g : Draft W). Enters z turns.from turns.head turns.last d.edges d.regions g.edges g.regions) (sym (body_part W k n p one r d)) turns.enters in
+    let w = has.inner in
+    let body : one.body ≡ has.body = ap (λ (o : Option BodyTree). unwrap_or o has.body) (sym (its_body W.unit p.function one.function one.body one.there one.has) ∙ has.is_body) in
+    let loop : HasLoopIn at w one.body.items = subst (λ (b : BodyTree). HasLoopIn at w b.items) (sym body) has.loop in
+    let closed : IsClosed one.body.items w = subst (λ (b : BodyTree). IsClosed b.items w) (sym body) has.closed in
+    let own : IsMarked one.body = subst IsMarkedIf one.has (all_get (λ (f : FunctionTree). IsMarkedIf f.body) W.unit.functions p.function one.function marked one.there) in
+    let turns = part_turns z at w c one.function one.body p.caller r (around W one) d closed.no_case one.is_body.items (sized W some k n p one) (closed_keeps one.body w own closed) loop in
+    let S = IsInLoop (IsLabelIn (r.points + 1) one.body.labels w) turns.head turns.last in
+    let enters = subst (λ (g : Draft W). Enters z S turns.from turns.head d.edges d.regions g.edges g.regions) (sym (body_part W k n p one r d)) turns.enters in
     let low = turns.low in
     let kept = is_kept W k n p one d plan in
     let ends = part_ends W l k n p one d in
     let same = ap (λ (g : Draft W). g.points) (body_part W k n p one r d) in
     let high = turns.high in
-    let held = held_first {m = e.points} kept ends (is_apart W k n p one d plan) clear (omega (low, arith)) turns.some (omega (high, same, arith)) enters in
+    let some_points = turns.some in
+    let within : (x : ℕ) → S x → IsBehindExit (z k) r x = λ x i. elim i [
+      | inl t ↦ (let less = t.1 in let is = t.3 in (omega (is, arith), omega (is, less, low, some_points, high, same, ends, arith)))
+      | inr t ↦ (let from = t.0 in let to = t.1 in (omega (from, low, arith), omega (to, high, same, ends, arith)))
+    ] in
+    let held = held_first kept (is_apart W k n p one d plan) clear within enters in
     record {
       head = turns.head;
       last = turns.last;
       from = turns.from;
+      first = r.points + 1;
+      labels = one.body.labels;
       told = subst (λ us. Contains us (turning at turns.head)) (sym (body_turns_are W k n p one r d)) turns.told;
       low = omega (low, kept, arith);
+      behind = omega (kept, arith);
       some = turns.some;
-      edges = parts_held W l some (k + 1) (n + length (calls_of W.unit p.function)) ps h.1 e (next_part W l k n p one d plan) turns.from turns.head turns.last held;
+      edges = parts_held W l some (k + 1) (n + length (calls_of W.unit p.function)) ps h.1 e (next_part W l k n p one d plan) S turns.from turns.head held;
     }
-parts_entered W l some k n (p ∷ ps) h d plan clear (suc i) at has =
-    parts_entered W l some (k + 1) (n + length (calls_of W.unit p.function)) ps h.1 (part_at W k n p d) (next_part W l k n p h.0 d plan)
-    (clear_next {m = (part_at W k n p d).points} (is_kept W k n p h.0 d plan) (part_ends W l k n p h.0 d) (is_apart W k n p h.0 d plan) (is_part W some k n p h.0 d) clear) i at has
+parts_entered W l some marked k n (p ∷ ps) h d plan clear (suc i) at has =
+    parts_entered W l some marked (k + 1) (n + length (calls_of W.unit p.function)) ps h.1 (part_at W k n p d) (next_part W l k n p h.0 d plan)
+    (clear_next {m = (part_at W k n p d).points} (is_kept W k n p h.0 d plan) (part_ends W l k n p h.0 d) (is_apart W k n p h.0 d plan) (is_part W some k n p h.0 d) clear) i at
+    (record { body = has.body; is_body = has.is_body; inner = has.inner; loop = has.loop; closed = has.closed })
 
 -- In the draft of a unit.
-pub unit_entered : (u : UnitTree) (entry : ℕ) (paths : List CallPath) → IsUnit u → HasBody u entry → IsListing u entry paths → AreCallPaths u entry paths → (k : ℕ) (at : Pos) → HasLoop u paths k at → IsEntered (part.program_draft by_number u paths).edges at (program_turns by_number u paths k)
-unit_entered u entry paths unit has l are k at loop =
+pub unit_entered : (u : UnitTree) (entry : ℕ) (paths : List CallPath) → IsUnit u → AreMarked u → HasBody u entry → IsListing u entry paths → AreCallPaths u entry paths → (k : ℕ) (at : Pos) (plain : IsPlainLoop u paths k at) → IsEntered (part.program_draft by_number u paths).edges plain.inner at (program_turns by_number u paths k)
+unit_entered u entry paths unit marked has l are k at plain =
     let W = world u paths in
     let b = listings_lead_behind u entry paths has l are (calls_are_noted u unit) in
     let lasts = lasting u entry paths unit has l are b in
     let ps = listing_paths W entry unit l b in
-    let plan = first_plan W (counted u entry paths unit has l are) in
-    let some : HaveExits W = λ j low. subst (λ i. 0 < points_of W i) (omega arith) (parts_some W lasts 0 1 paths ps (begins u paths) plan j low) in
-    parts_entered W lasts some 0 1 paths ps (begins u paths) plan (λ j f le kept c i. let none = c.1 in absurd (omega (none, arith))) k at loop
+    let start = first_plan W (counted u entry paths unit has l are) in
+    let some : HaveExits W = λ j low. subst (λ i. 0 < points_of W i) (omega arith) (parts_some W lasts 0 1 paths ps (begins u paths) start j low) in
+    parts_entered W lasts some marked 0 1 paths ps (begins u paths) start (λ j f le kept c i. let none = c.1 in absurd (omega (none, arith))) k at plain
