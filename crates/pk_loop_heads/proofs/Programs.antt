@@ -266,7 +266,7 @@ parts_entered W l some marked k n (p ∷ ps) h d plan clear zero at has =
       | inl t ↦ (let less = t.1 in let is = t.3 in (omega (is, arith), omega (is, less, low, some_points, high, same, ends, arith)))
       | inr t ↦ (let from = t.0 in let to = t.1 in (omega (from, low, arith), omega (to, high, same, ends, arith)))
     ] in
-    let held = held_first kept (is_apart W k n p one d plan) clear within enters in
+    let held = held_first {q = turns.from} {h = turns.head} {S = S} kept (is_apart W k n p one d plan) clear within enters in
     record {
       head = turns.head;
       last = turns.last;
