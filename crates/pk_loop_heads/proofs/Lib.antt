@@ -4,3 +4,4 @@ mod Parts
 mod Between
 mod Programs
 mod Graphs
+mod Cases
