@@ -1,0 +1,10 @@
+pub mod Octs
+pub mod Closings
+pub mod Places
+pub mod Lists
+mod Points
+mod Placing
+mod Zips
+mod Overs
+pub mod Sound
+pub mod Resting

@@ -1,0 +1,8 @@
+use Rattle.std.proofs.Common.{◌≡◌, take}
+use Rattle.pk_blocks.specs.Rows.{merged_from}
+use Rattle.pk_octops.specs.Tables.{narrowing_of}
+use Rattle.pk_octagons.proofs.octagons.narrow_all.Given as goal
+
+-- so many are made
+abbrev pub invariant-loop-p : goal.invariant-loop-p
+invariant-loop-p l = l.out.items ≡ merged_from (λ q. narrowing_of) 0 (take l.p l.a) (take l.p l.b)
