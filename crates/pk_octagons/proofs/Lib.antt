@@ -8,3 +8,6 @@ mod Zips
 mod Overs
 pub mod Sound
 pub mod Resting
+mod Least
+pub mod Bounding
+mod Closed

@@ -1,10 +1,10 @@
 -- The places of variables in packs.
-use Rattle.std.specs.Prelude.{◌≡◌, ◌≢◌, ◌⊎◌, ℕ, zero, suc, ◌+◌, ◌<◌, ◌≤◌, List, [], ◌∷◌, ◌++◌, length, All, Option, Some, None, slice_index_or}
+use Rattle.std.specs.Prelude.{◌-◌, ◌≡◌, ◌≢◌, ◌⊎◌, ℕ, zero, suc, ◌+◌, ◌<◌, ◌≤◌, List, [], ◌∷◌, ◌++◌, length, All, Option, Some, None, slice_index_or}
 use Rattle.std.proofs.Common.{◌∙◌, ap, refl, sym, arith, inl, inr, set, take, length-set, get_or, get_or-set_same, get_or-set_other}
 use Rattle.std.proofs.lemmas.Bool.{cases_eq}
-use Rattle.std.proofs.lemmas.List.Elements.{All-head, All-tail}
+use Rattle.std.proofs.lemmas.List.Elements.{All-head, All-tail, All-nil, All-cons, All-weaker}
 use Rattle.pk_octagons.specs.declared.packs.Place.{Place}
-use Rattle.pk_octagons.specs.Packs.{chosen_at, place_in, IsPack, pack_at, with_place, places_from}
+use Rattle.pk_octagons.specs.Packs.{IsPlaceOf, chosen_at, place_in, IsPack, pack_at, with_place, places_from}
 use Rattle.pk_octagons.proofs.Places.{place_there, none_apart, found_none}
 
 abbrev pub at : List (List Place) → ℕ → List Place
@@ -103,3 +103,37 @@ places_none p [] n x h q = refl
 places_none p (c ∷ packs) n x h q =
     let own = All-head (IsPack n) c packs h in
     ap (λ o. with_place p o (places_from (p + 1) packs x)) (found_none c x (λ j r e. absurd (omega (arith, own.there j r, e, q)))) ∙ places_none (p + 1) packs n x (All-tail (IsPack n) c packs h) q
+
+-- a place in packs that are numbered from n on
+record IsPlaceFrom (n : ℕ) (packs : List (List ℕ)) (x : ℕ) (p : Place) : Type 0 where
+  from : n ≤ p.pack
+  there : p.pack < n + length packs
+  is : place_in (pack_at packs (p.pack - n)) x ≡ Some p.place
+
+places_in : (n : ℕ) (packs : List (List ℕ)) (x : ℕ) → All (IsPlaceFrom n packs x) (places_from n packs x)
+places_in n [] x = All-nil (IsPlaceFrom n [] x)
+places_in n (c ∷ packs) x = by (place_in c x) refl (places_in (n + 1) packs x)
+  where
+    later : (p : Place) → IsPlaceFrom (n + 1) packs x p → IsPlaceFrom n (c ∷ packs) x p
+    later p h =
+        let next : p.pack - n ≡ suc (p.pack - (n + 1)) = omega (arith, h.from) in
+        record { from = omega (arith, h.from); there = omega (arith, h.there); is = ap (λ q. place_in (pack_at (c ∷ packs) q) x) next ∙ h.is }
+
+    rest : All (IsPlaceFrom (n + 1) packs x) (places_from (n + 1) packs x) → All (IsPlaceFrom n (c ∷ packs) x) (places_from (n + 1) packs x)
+    rest ih = All-weaker (IsPlaceFrom (n + 1) packs x) (IsPlaceFrom n (c ∷ packs) x) later (places_from (n + 1) packs x) ih
+
+    by : (o : Option ℕ) → place_in c x ≡ o → All (IsPlaceFrom (n + 1) packs x) (places_from (n + 1) packs x) → All (IsPlaceFrom n (c ∷ packs) x) (with_place n o (places_from (n + 1) packs x))
+    by None e ih = rest ih
+    by (Some k) e ih =
+        let first : n - n ≡ 0 = omega arith in
+        All-cons (IsPlaceFrom n (c ∷ packs) x) (record { pack = n; place = k }) (places_from (n + 1) packs x) (record { from = omega arith; there = omega arith; is = ap (λ q. place_in (pack_at (c ∷ packs) q) x) first ∙ e }) (rest ih)
+
+pub places_are : (n : ℕ) (packs : List (List ℕ)) (x : ℕ) → All (IsPack n) packs → All (IsPlaceOf packs x) (places_from 0 packs x)
+places_are n packs x a = All-weaker (IsPlaceFrom 0 packs x) (IsPlaceOf packs x) one (places_from 0 packs x) (places_in 0 packs x)
+  where
+    one : (p : Place) → IsPlaceFrom 0 packs x p → IsPlaceOf packs x p
+    one p h =
+        let same : p.pack - 0 ≡ p.pack = omega arith in
+        let is : place_in (pack_at packs p.pack) x ≡ Some p.place = ap (λ q. place_in (pack_at packs q) x) (sym same) ∙ h.is in
+        let there : p.pack < length packs = omega (arith, h.there) in
+        record { there = there; is = is; few = omega (arith, (place_there (pack_at packs p.pack) x p.place is).0, (a p.pack [] there).few) }

@@ -37,6 +37,16 @@ places_from p (chosen ∷ packs) x = with_place p (place_in chosen x) (places_fr
 abbrev pub places_of : List (List ℕ) → ℕ → List Place
 places_of packs x = places_from 0 packs x
 
+-- a place that variable x has in its pack
+pub record IsPlaceOf (packs : List (List ℕ)) (x : ℕ) (p : Place) : Type 0 where
+  pub there : p.pack < length packs
+  pub is : place_in (pack_at packs p.pack) x ≡ Some p.place
+  pub few : p.place < 2 ^ 31
+
+-- the place in an octagon of V(t), where t's variable has place k
+abbrev pub side_of : ℕ → ℕ → ℕ
+side_of t k = 2 * k + t % 2
+
 -- The place in an octagon of V(t): V(2x) is variable x, V(2x + 1) its negative, and so are V(2k) and V(2k + 1) in an octagon of which it is variable k.
 abbrev pub side_in : List ℕ → ℕ → Option ℕ
-side_in chosen t = option_map (λ k. 2 * k + t % 2) (place_in chosen (t / 2))
+side_in chosen t = option_map (side_of t) (place_in chosen (t / 2))

@@ -1,7 +1,9 @@
 // One octagon, shared, with what is known of it.
 
-ghost use Rattle.std.specs.Prelude.{◌≡◌, ◌↔◌, ◌<◌, ◌*◌, ◌^◌, ℕ, true, IfOk, IfSome, Some, length, option_map};
+ghost use Rattle.std.specs.Prelude.{◌≡◌, ◌↔◌, ◌<◌, ◌*◌, ◌+◌, ◌^◌, ℕ, true, IfOk, IfSome, Some, length, option_map};
 ghost use Rattle.pk_octmat.specs.Octagon.{entry, octagon_of, top_bound, IsOctagon};
+ghost use Rattle.pk_octmat.specs.Bounds.{halved};
+ghost use Rattle.pk_octops.specs.Values.{least_of};
 ghost use Rattle.pk_octops.specs.Assigns.{assignment_of};
 ghost use Rattle.pk_octops.specs.Guards.{IsGuard, guard_of};
 ghost use Rattle.pk_octops.specs.Tables.{join_of, widening_of, narrowing_of, IsBelow};
@@ -15,7 +17,7 @@ use crate::packs::Pack;
 use pk_blocks::Blocks;
 use pk_octmarks::Mark;
 use pk_octmat::{Matrix, Shape};
-use pk_octops::{assign, guard, leq};
+use pk_octops::{assign, bounds, guard, leq};
 use pk_value::Value;
 use std::alloc::{AllocError, Global};
 use std::marker::Model;
@@ -139,6 +141,15 @@ impl Marked {
         ensures { result ≡ entry self.now i j }
     {
         self.octagon.get(i, j)
+    }
+
+    /// The least and the greatest number that variable k may be by its bounds.
+    pub(crate) fn range(&self, k: u32) -> (Option<i128>, Option<i128>)
+        requires { k < self.now.vars }
+        ensures least { result.0 ≡ least_of (entry self.now (2 * k) (2 * k + 1)) }
+        ensures greatest { result.1 ≡ halved (entry self.now (2 * k + 1) (2 * k)) }
+    {
+        bounds(&self.octagon, k)
     }
 
     /// Variable k gets V(term) + c, or any number.

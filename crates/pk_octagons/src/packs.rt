@@ -164,7 +164,8 @@ fn placed(alloc: Global, count: usize, packs: &[Pack]) -> Result<Vec<Places>, Al
 }
 
 impl PlacedPacks {
-    ghost use Rattle.pk_octagons.specs.Packs.{pack_at};
+    ghost use Rattle.std.specs.Prelude.{All};
+    ghost use Rattle.pk_octagons.specs.Packs.{pack_at, IsPlaceOf};
 
     /// Packs of variables of which there are so many.
     pub fn new(alloc: Global, count: usize, packs: Vec<Pack>) -> Result<PlacedPacks, AllocError>
@@ -193,7 +194,8 @@ impl PlacedPacks {
 
     /// The places of a variable, in the order of the packs.
     pub fn places(&self, x: usize) -> &[Place]
-        ensures { result.now ≡ places_of self.now x }
+        ensures value { result.now ≡ places_of self.now x }
+        ensures there { All (IsPlaceOf self.now x) result.now }
     {
         if x < self.places.len() {
             return self.places[x].as_slice();
