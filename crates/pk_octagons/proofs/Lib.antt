@@ -11,3 +11,6 @@ pub mod Resting
 mod Least
 pub mod Bounding
 mod Closed
+mod Stay
+mod One
+mod Numbers

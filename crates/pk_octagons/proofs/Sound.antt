@@ -20,7 +20,7 @@ use Rattle.pk_octagons.specs.Packs.{chosen_at, place_in, IsPack, ArePacks, side_
 use Rattle.pk_octagons.specs.Octagons.{AreOctagons, AreBelow, joined_octagons, widened_octagons, narrowed_octagons}
 use Rattle.pk_octagons.specs.Changes.{then_with, each_changed, changed_at, assigned_in, bounded_in, related_in, or_else, AreTerms, assigned_octagons, guarded_octagons, bound_by, bound_in}
 use Rattle.pk_octagons.specs.Reduced.{by_ranges, closed_in, with_first, closed_octagons}
-use Rattle.pk_octagons.specs.Members.{number_if, selected, MeetsIn, MeetAll, MeetAllIf, AreInRange, OctagonsAreSound, ReductionsAreExact}
+use Rattle.pk_octagons.specs.Members.{number_if, selected, MeetsIn, MeetAll, MeetAllIf, AreInRange, OctagonsAreSound}
 use Rattle.pk_octagons.proofs.Lists.{get_some}
 use Rattle.pk_octagons.proofs.Places.{place_there, none_apart}
 use Rattle.pk_octagons.proofs.Octs.{by_ranges_octagon, by_ranges_kept, by_ranges_falls}
@@ -264,23 +264,23 @@ with_first_kept c packs x None r n s m = absurd (n refl)
 with_first_kept c packs x (Some o) None n s m = absurd m
 with_first_kept c packs x (Some o) (Some ms) n s m = (s o refl, m)
 
-kept : (packs : List (List ℕ)) (vs : List Known) (ms : List Octagon) (x : ℕ → ℤ) → AreOctagons packs ms → AreInRange packs vs x → MeetAll packs ms x → MeetAllIf packs (closed_octagons packs vs ms) x
-kept [] vs [] x h r m = tt
-kept [] vs (o ∷ ms) x h r m = absurd m
-kept (c ∷ packs) vs [] x h r m = absurd m
-kept (c ∷ packs) vs (o ∷ ms) x h r m =
+pub closings_keep : (packs : List (List ℕ)) (vs : List Known) (ms : List Octagon) (x : ℕ → ℤ) → AreOctagons packs ms → AreInRange packs vs x → MeetAll packs ms x → MeetAllIf packs (closed_octagons packs vs ms) x
+closings_keep [] vs [] x h r m = tt
+closings_keep [] vs (o ∷ ms) x h r m = absurd m
+closings_keep (c ∷ packs) vs [] x h r m = absurd m
+closings_keep (c ∷ packs) vs (o ∷ ms) x h r m =
     let own = first_of c packs o ms h in
     let low = by_ranges c vs (length c) o in
     let octagon : IsOctagon low = by_ranges_octagon c vs (length c) o own.octagon (omega (arith, own.vars)) in
     let meets = by_ranges_kept c vs (length c) o (selected c x) m.0 (λ k p. rw (selected_is c x k p) (r (chosen_at c k) (inl (k, p, refl)))) in
     with_first_kept c packs x (closed_in c vs o) (closed_octagons packs vs ms) (λ e. closing_right.nothing low (selected c x) octagon e meets) (λ n e. (closing_right.points low n octagon e).to (selected c x) meets)
-    (kept packs vs ms x own.rest (λ y q. r y (inr q)) m.1)
+    (closings_keep packs vs ms x own.rest (λ y q. r y (inr q)) m.1)
 
-only : (packs : List (List ℕ)) (vs : List Known) (ms ns : List Octagon) (x : ℕ → ℤ) → AreOctagons packs ms → closed_octagons packs vs ms ≡ Some ns → MeetAll packs ns x → MeetAll packs ms x
-only [] vs [] ns x h e m = tt
-only [] vs (o ∷ ms) ns x h e m = no_packs o ms h
-only (c ∷ packs) vs [] ns x h e m = no_octagons c packs h
-only (c ∷ packs) vs (o ∷ ms) ns x h e m = by (closed_in c vs o) refl (closed_octagons packs vs ms) refl e (λ us f. only packs vs ms us x (first_of c packs o ms h).rest f)
+pub closings_only : (packs : List (List ℕ)) (vs : List Known) (ms ns : List Octagon) (x : ℕ → ℤ) → AreOctagons packs ms → closed_octagons packs vs ms ≡ Some ns → MeetAll packs ns x → MeetAll packs ms x
+closings_only [] vs [] ns x h e m = tt
+closings_only [] vs (o ∷ ms) ns x h e m = no_packs o ms h
+closings_only (c ∷ packs) vs [] ns x h e m = no_octagons c packs h
+closings_only (c ∷ packs) vs (o ∷ ms) ns x h e m = by (closed_in c vs o) refl (closed_octagons packs vs ms) refl e (λ us f. closings_only packs vs ms us x (first_of c packs o ms h).rest f)
   where
     own : IsOver c o packs ms
     own = first_of c packs o ms h
@@ -294,6 +294,3 @@ only (c ∷ packs) vs (o ∷ ms) ns x h e m = by (closed_in c vs o) refl (closed
         let low = by_ranges c vs (length c) o in
         let octagon : IsOctagon low = by_ranges_octagon c vs (length c) o own.octagon (omega (arith, own.vars)) in
         (by_ranges_falls c vs (length c) o (selected c x) own.octagon (omega (arith, own.vars)) ((closing_right.points low n octagon f).from (selected c x) both.0), ih us g both.1)
-
-pub reductions_exact : ReductionsAreExact
-reductions_exact = record { kept = kept; only = only }

@@ -5,3 +5,4 @@ pub mod Changes
 pub mod Reduced
 pub mod Members
 pub mod Turns
+pub mod Laws

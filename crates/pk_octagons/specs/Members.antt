@@ -2,7 +2,7 @@
 use Rattle.std.specs.Prelude.{◌≡◌, ◌⊎◌, ℕ, ◌<◌, ℤ, pos, ◌-ℤ◌, List, [], ◌∷◌, length, slice_get, Option, Some, None}
 use Rattle.std.specs.List.{AllZip}
 use Rattle.pk_interval.specs.Ranges.{Holds}
-use Rattle.pk_value.specs.Known.{Known}
+use Rattle.pk_value.specs.Known.{Known, IsOf}
 use Rattle.pk_octmat.specs.Bounds.{AtMost}
 use Rattle.pk_octmat.specs.Octagon.{Octagon, entry, side, with_number, Meets}
 use Rattle.pk_octops.specs.Assigns.{Gives}
@@ -11,7 +11,7 @@ use Rattle.pk_octagons.specs.Packs.{chosen_at, ArePacks}
 use Rattle.pk_octagons.specs.Values.{known_at}
 use Rattle.pk_octagons.specs.Octagons.{AreOctagons, AreBelow, joined_octagons, widened_octagons, narrowed_octagons}
 use Rattle.pk_octagons.specs.Changes.{AreTerms, assigned_octagons, guarded_octagons, bound_in}
-use Rattle.pk_octagons.specs.Reduced.{closed_octagons}
+use Rattle.pk_octagons.specs.Reduced.{closed_octagons, bounded_values}
 
 abbrev pub number_if : (ℕ → ℤ) → Option ℕ → ℤ
 number_if x None = pos 0
@@ -62,9 +62,25 @@ pub record OctagonsAreSound : Type 0 where
   pub told : (packs : List (List ℕ)) (ms : List Octagon) (x : ℕ → ℤ) (i j : ℕ) → MeetAll packs ms x →
       AtMost (Some (side x j -ℤ side x i)) (bound_in packs ms i j)
 
--- Lowering by ranges and closing keeps exactly the points whose numbers lie in the ranges; bounding keeps the numbers that meet the octagons, and adds none.
+-- the numbers x of the packs' variables are known as possible
+abbrev pub ArePossible : List (List ℕ) → List Known → (ℕ → ℤ) → Type 0
+ArePossible packs vs x = (y : ℕ) → IsChosen packs y → IsOf (known_at vs y) (x y)
+
+-- what is left of the values has their numbers, of a pack's variable that of x
+abbrev pub KeepsNumbers : List (List ℕ) → (ℕ → ℤ) → List Known → Option (List Known) → Type 0
+KeepsNumbers packs x vs None = ⊥
+KeepsNumbers packs x vs (Some ws) =
+    (y : ℕ) (z : ℤ) → (IsChosen packs y → z ≡ x y) → IsOf (known_at vs y) z → IsOf (known_at ws y) z
+
+-- Lowering by ranges and closing keeps exactly the points whose numbers lie in the ranges; bounding keeps the numbers of points that meet all octagons, and adds none.
 pub record ReductionsAreExact : Type 0 where
   pub kept : (packs : List (List ℕ)) (vs : List Known) (ms : List Octagon) (x : ℕ → ℤ) → AreOctagons packs ms →
       AreInRange packs vs x → MeetAll packs ms x → MeetAllIf packs (closed_octagons packs vs ms) x
   pub only : (packs : List (List ℕ)) (vs : List Known) (ms ns : List Octagon) (x : ℕ → ℤ) → AreOctagons packs ms →
       closed_octagons packs vs ms ≡ Some ns → MeetAll packs ns x → MeetAll packs ms x
+  pub bounded : (packs : List (List ℕ)) (ms : List Octagon) (vs : List Known) (x : ℕ → ℤ) →
+      ArePacks (length vs) packs → MeetAll packs ms x → ArePossible packs vs x →
+      KeepsNumbers packs x vs (bounded_values packs ms vs)
+  pub bounded_only : (packs : List (List ℕ)) (ms : List Octagon) (vs ws : List Known) (y : ℕ) (z : ℤ) →
+      ArePacks (length vs) packs → bounded_values packs ms vs ≡ Some ws → IsOf (known_at ws y) z →
+      IsOf (known_at vs y) z

@@ -1,4 +1,4 @@
-use Rattle.pk_octagons.proofs.Sound.{reductions_exact}
+use Rattle.pk_octagons.proofs.Numbers.{reductions_exact}
 use Rattle.pk_octagons.proofs.laws.reductions_are_exact.Goals as goal
 
 pub returns : goal.returns
