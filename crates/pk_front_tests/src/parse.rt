@@ -29,11 +29,20 @@ fn syntax(column: u64) -> Option<ParseError> {
 }
 
 // Texts, and the column at which each is a syntax error, or 0.
-const TEXTS: [(&str, u64); 35] = [
+const TEXTS: [(&str, u64); 44] = [
     ("", 0),
     ("}", 1),
     ("int x", 6),
     ("int x = {1, 2,};", 0),
+    ("int a[2]={{1},{2}};", 0),
+    ("int a[2]={{1,2,},3,{4},};", 0),
+    ("int a[2]={{{1}}};", 12),
+    ("int a[2]={{}};", 12),
+    ("int a[2]={{,}};", 12),
+    ("int a[2]={{1},,};", 15),
+    ("int a[2]={{1}{2}};", 14),
+    ("int a[2]={{1;}};", 13),
+    ("int a[2]={{1}", 14),
     ("int x = {,};", 10),
     ("int x = {};", 10),
     ("int x[1,2];", 8),
@@ -150,7 +159,7 @@ fn enumerations(rt: HostRuntime) -> Result<(), Fail> {
 }
 
 // What stands in a body behind some declarations, and the column at which it is a syntax error, or 0.
-const BODIES: [(&str, u64); 163] = [
+const BODIES: [(&str, u64); 164] = [
     ("a+b=3;", 4),
     ("a?b:a=3;", 6),
     ("(int)a=3;", 7),
@@ -242,7 +251,8 @@ const BODIES: [(&str, u64); 163] = [
     ("for(a;b;a)", 0),
     ("for(int;;);", 8),
     ("if a;", 4),
-    ("int x={{1}};", 8),
+    ("int x={{1}};", 0),
+    ("t[1](2);", 5),
     ("x={1};", 3),
     ("(a)=3;", 0),
     ("((t[0]))++;", 0),
@@ -344,6 +354,8 @@ fn constructs_come_first(rt: HostRuntime) -> Result<(), Fail> {
     let alloc = rt.alloc();
     assert!(rt; refused(alloc, "float x; int")? == unsupported(Construct::Float, 1));
     assert!(rt; refused(alloc, "} } x = 5 5 \"s\"")? == unsupported(Construct::StringLiteral, 13));
+    assert!(rt; refused(alloc, "int f(void){a[1][2][3];}")? == unsupported(Construct::Arrays, 17));
+    assert!(rt; refused(alloc, "int a[2][2]={{1},{2}};")? == unsupported(Construct::Arrays, 9));
     Ok(())
 }
 

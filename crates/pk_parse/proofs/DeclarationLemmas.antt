@@ -2,14 +2,12 @@
 use Rattle.std.proofs.Common.{◌≡◌, ℕ, ◌+◌, ◌<◌, ◌≤◌, List, [], ◌∷◌, ◌++◌, length, Option, Some, None, option_map, false, ◌&&◌, not, refl, sym, ap, subst, ◌∙◌, append_assoc, append-nil, arith, Bool, true}
 use Rattle.std.specs.Option.{is_some}
 use Rattle.pk_ast.specs.Lists.{ended}
-use Rattle.pk_ctypes.specs.declared.places.Pos.{Pos}
 use Rattle.pk_lex.specs.declared.token.Token.{Token}
 use Rattle.pk_ast.specs.declared.declarations.Specifier.{Specifier}
 use Rattle.pk_ast.specs.declared.declarations.Declarator.{Declarator}
-use Rattle.pk_ast.specs.declared.expressions.Expression.{Expression}
 use Rattle.pk_ast.specs.declared.expressions.Identifier.{Identifier}
-use Rattle.pk_ast.specs.Trees.{ExpressionTree, ExpressionTrees, no_expressions, InitializerTree, single, DeclaratorTree, DeclarationTree, EnumerationTree, OneOrMore, expression_then}
-use Rattle.pk_ast.specs.Views.{expression_tree, expression_trees, declarator_tree, declarator_trees}
+use Rattle.pk_ast.specs.Trees.{OneOrMore, ExpressionTree, DeclaratorTree, DeclarationTree, EnumerationTree}
+use Rattle.pk_ast.specs.Views.{declarator_tree, declarator_trees}
 use Rattle.pk_ast.proofs.ListLemmas.{declarator_trees-push}
 use Rattle.pk_grammar.specs.declared.failure.ParseError.{ParseError}
 use Rattle.pk_grammar.specs.declared.failure.ParseError.TheVariants.{Syntax, Nesting}
@@ -17,123 +15,59 @@ use Rattle.pk_grammar.specs.declared.signs.Fixed.{Fixed}
 use Rattle.pk_grammar.specs.declared.signs.Fixed.TheVariants as fixed
 use Rattle.pk_grammar.specs.Languages.{identifier_of}
 use Rattle.pk_grammar.specs.Machine.Signs.{is_fixed}
-use Rattle.pk_grammar.specs.Machine.States.{Site, in_a_block, in_a_for, outside, in_declaration, Declaring, Naming, as_length, as_value, as_item, as_whole, after_name, after_length, after_assign, after_brace, after_initializer, after_comma, operand, complete, Declared}
-use Rattle.pk_grammar.specs.Machine.Steps.{refused, site_nesting, naming_nesting, with_initializer, open_parameters, first_item, more_items, with_declarator, goes_on_declaring}
+use Rattle.pk_grammar.specs.Machine.States.{Site, in_a_block, in_a_for, outside, in_declaration, Declaring, Naming, as_whole, after_name, after_length, after_columns, after_assign, after_initializer, after_comma, operand, Declared}
+use Rattle.pk_grammar.specs.Machine.Steps.{refused, site_nesting, naming_nesting, open_parameters, with_declarator, goes_on_declaring}
 use Rattle.pk_grammar.specs.Machine.Running.{first_of_all, run, Fails}
 use Rattle.pk_parse_expression.specs.Parsing.{Begins, EndsAt, UpTo, Reads, Refuses}
 use Rattle.pk_parse_expression.proofs.RunLemmas.{fails_as, fails_syntax, fails_nesting}
-use Rattle.pk_parse_expression.proofs.ExpressionLemmas.{trees_push}
-use Rattle.pk_parse.specs.Parts.{type_state, EndsType, CanDeclare, IsInner, needs_name, AtNames, named_first, with_declarators, after_declaration, item_state}
-use Rattle.pk_parse.proofs.RunDeclarations.{naming, run_length, deep_length, run_length_end, no_length_end, run_assign, run_braced, run_value, run_value_end, run_first_item, run_item_end, run_item_comma, no_item_end, run_last_comma, run_next_item, run_semicolon, run_comma, no_comma, run_next_name, no_next_name, run_ended, run_first_name, no_first_name}
+use Rattle.pk_parse.specs.Parts.{type_state, EndsType, length_state, next_length_state, IsLength, CanDeclare, IsInner, needs_name, AtNames, named_first, with_declarators, after_declaration}
+use Rattle.pk_parse.proofs.RunDeclarations.{naming, with_columns, length_purpose, level, run_length, deep_length, run_length_end, no_length_end, run_no_length, run_no_columns, run_assign, run_semicolon, run_comma, no_comma, run_next_name, no_next_name, run_ended, run_first_name, no_first_name}
 
 -- the first token is one of those that are left
 pub shorter : (f : Fixed) (ts : List Token) (t : Token) (rest : List Token) → Begins f ts t rest → length rest < length ts
 shorter f ts t rest b = omega (arith, ap length b.cut)
 
--- The length of an array
+-- The lengths of an array
 
-module _ (end : Token) (d : Declaring) (id : Identifier) (n : ℕ) (ts : List Token) (can : CanDeclare end d id n ts) (t : Token) (rest : List Token) (opens : Begins fixed.OpenBracket ts t rest) where
-  pub sinks_length : (x : ParseError) → (x ≡ Nesting t.at) × (128 < n + 1) → Fails (run end (after_name d id) ts) x
-  sinks_length x h = let same = can.nesting in let deeper = h.1 in fails_nesting _ x _ h.0 (deep_length end d id ts t rest opens (omega arith))
+module _ (end : Token) (d : Declaring) (id : Identifier) (rows : Option ExpressionTree) (n : ℕ) (ts : List Token) (same : site_nesting d.site ≡ n) (t : Token) (rest : List Token) (opens : Begins fixed.OpenBracket ts t rest) where
+  pub sinks_length : (x : ParseError) → (x ≡ Nesting t.at) × (128 < n + 1) → Fails (run end (length_state d id rows) ts) x
+  sinks_length x h = let deeper = h.1 in fails_nesting _ x _ h.0 (deep_length end d id rows ts t rest opens (omega arith))
 
   module _ (inside : ℕ) (within : (inside ≡ n + 1) × (inside ≤ 128)) where
-    opened : run end (after_name d id) ts ≡ run end (operand inside (as_whole (as_length d id))) rest
+    opened : run end (length_state d id rows) ts ≡ run end (operand inside (as_whole (length_purpose d id rows))) rest
     opened =
-        let same = can.nesting in
         let i = within.0 in
         let h = within.1 in
-        run_length end d id ts t rest opens (omega arith) ∙ ap (λ q. run end (operand q (as_whole (as_length d id))) rest) (omega arith)
+        run_length end d id rows ts t rest opens (omega arith) ∙ ap (λ q. run end (operand q (as_whole (length_purpose d id rows))) rest) (omega arith)
 
-    pub fails_length : (x : ParseError) → Refuses end (UpTo 2) (λ c. operand inside c) rest x → Fails (run end (after_name d id) ts) x
-    fails_length x r = fails_as _ _ x opened (r (as_whole (as_length d id)) (omega arith))
+    pub fails_length : (x : ParseError) → Refuses end (UpTo 2) (λ c. operand inside c) rest x → Fails (run end (length_state d id rows) ts) x
+    fails_length x r = fails_as _ _ x opened (r (as_whole (length_purpose d id rows)) (level d id rows))
 
     module _ (e : ExpressionTree) (after : List Token) (r : Reads end (UpTo 2) (λ c. operand inside c) inside rest e after) where
       pub stops_length : (x : ParseError) → EndsAt end 2 after → (is_fixed fixed.CloseBracket (first_of_all end after).kind ≡ false) × (x ≡ Syntax (first_of_all end after).at) →
-          Fails (run end (after_name d id) ts) x
-      stops_length x ends h = fails_syntax _ x _ h.1 (opened ∙ r (as_whole (as_length d id)) (omega arith) ∙ no_length_end end d id after inside e ends h.0)
+          Fails (run end (length_state d id rows) ts) x
+      stops_length x ends h = fails_syntax _ x _ h.1 (opened ∙ r (as_whole (length_purpose d id rows)) (level d id rows) ∙ no_length_end end d id rows after inside e ends h.0)
 
-      pub reads_length : (u : Token) (last : List Token) → Begins fixed.CloseBracket after u last → run end (after_name d id) ts ≡ run end (after_length (naming d id (Some e))) last
+      pub reads_length : (u : Token) (last : List Token) → Begins fixed.CloseBracket after u last → run end (length_state d id rows) ts ≡ run end (next_length_state d id rows e) last
       reads_length u last b =
-          let same = can.nesting in
           let i = within.0 in
           let h = within.1 in
-          opened ∙ r (as_whole (as_length d id)) (omega arith) ∙ run_length_end end d id after inside e u last b (omega arith)
+          opened ∙ r (as_whole (length_purpose d id rows)) (level d id rows) ∙ run_length_end end d id rows after inside e u last b (omega arith)
 
--- The items of a braced list
+pub reads_no_length : (end : Token) (n : ℕ) (ts rest : List Token) → IsLength end n ts None rest → (d : Declaring) (id : Identifier) → CanDeclare end d id n ts →
+    run end (after_name d id) ts ≡ run end (after_columns (naming d id None)) rest
+reads_no_length end n ts rest l d id can = run_no_length end d id ts n can l.1 ∙ ap (λ q. run end (after_columns (naming d id None)) q) (sym l.0)
 
--- an item at this place is read so
-abbrev pub ReadsItem : Token → ℕ → List Token → ExpressionTree → Bool → List Token → Type 0
-ReadsItem end n ts e another rest = (d : Naming) (at : Pos) (es : ExpressionTrees) → naming_nesting d ≡ n →
-    run end (operand n (as_whole (as_item d at es))) ts ≡ run end (item_state another d at (first_item es e) (more_items es e)) rest
-
-module _ (end : Token) (n : ℕ) (limit : n ≤ 128) (ts : List Token) (e : ExpressionTree) (after : List Token) (r : Reads end (UpTo 1) (λ c. operand n c) n ts e after) where
-  item : (d : Naming) (at : Pos) (es : ExpressionTrees) → run end (operand n (as_whole (as_item d at es))) ts ≡ run end (complete n e (as_whole (as_item d at es))) after
-  item d at es = r (as_whole (as_item d at es)) (omega arith)
-
-  pub stops_item : (x : ParseError) → EndsAt end 1 after → is_fixed fixed.CloseBrace (first_of_all end after).kind ≡ false →
-      (is_fixed fixed.Comma (first_of_all end after).kind ≡ false) × (x ≡ Syntax (first_of_all end after).at) → (d : Naming) (at : Pos) (es : ExpressionTrees) → naming_nesting d ≡ n →
-      Fails (run end (operand n (as_whole (as_item d at es))) ts) x
-  stops_item x ends f h d at es same = fails_syntax _ x _ h.1 (item d at es ∙ no_item_end end d at es after n e ends f h.0)
-
-  pub reads_last_item : (t : Token) (last : List Token) → Begins fixed.CloseBrace after t last → ReadsItem end n ts e false last
-  reads_last_item t last b d at es same = item d at es ∙ run_item_end end d at es after n e t last b (omega arith)
-
-  module _ (t : Token) (next : List Token) (comma : Begins fixed.Comma after t next) where
-    pub reads_item : ReadsItem end n ts e true next
-    reads_item d at es same = item d at es ∙ run_item_comma end d at es after n e t next comma (omega arith)
-
-    pub reads_last_comma : (u : Token) (last : List Token) → Begins fixed.CloseBrace next u last → ReadsItem end n ts e false last
-    reads_last_comma u last b d at es same = reads_item d at es same ∙ run_last_comma end d at (first_item es e) (more_items es e) next u last b (omega arith)
-
-pub fails_item : (end : Token) (n : ℕ) (ts : List Token) (x : ParseError) → Refuses end (UpTo 1) (λ c. operand n c) ts x → (d : Naming) (at : Pos) (es : ExpressionTrees) → naming_nesting d ≡ n →
-    Fails (run end (operand n (as_whole (as_item d at es))) ts) x
-fails_item end n ts x r d at es same = r (as_whole (as_item d at es)) (omega arith)
-
-pub run_first : (end : Token) (n : ℕ) (ts : List Token) (d : Naming) (at : Pos) → naming_nesting d ≡ n → run end (after_brace d at) ts ≡ run end (operand n (as_whole (as_item d at no_expressions))) ts
-run_first end n ts d at same = run_first_item end d at ts ∙ ap (λ q. run end (operand q (as_whole (as_item d at no_expressions))) ts) same
-
--- these items come first, behind one
-abbrev pub ReadsItems : Token → ℕ → Bool → List Token → ExpressionTrees → Bool → List Token → Type 0
-ReadsItems end n another ts es goes_on rest = (d : Naming) (at : Pos) (e : ExpressionTree) → naming_nesting d ≡ n →
-    run end (item_state another d at e no_expressions) ts ≡ run end (item_state goes_on d at e es) rest
-
-module _ (end : Token) (n : ℕ) (first : Bool) (ts : List Token) (es : List Expression) (rest : List Token) (done : ReadsItems end n first ts (expression_trees es) true rest)
-    (goes : is_fixed fixed.CloseBrace (first_of_all end rest).kind ≡ false) where
-  next_item : (d : Naming) (at : Pos) (e : ExpressionTree) → naming_nesting d ≡ n →
-      run end (item_state first d at e no_expressions) ts ≡ run end (operand n (as_whole (as_item d at (expression_then e (expression_trees es))))) rest
-  next_item d at e same =
-      done d at e same ∙ run_next_item end d at e (expression_trees es) rest goes
-      ∙ ap (λ q. run end (operand q (as_whole (as_item d at (expression_then e (expression_trees es))))) rest) same
-
-  pub fails_items : (x : ParseError) → ((d : Naming) (at : Pos) (es : ExpressionTrees) → naming_nesting d ≡ n → Fails (run end (operand n (as_whole (as_item d at es))) rest) x) →
-      (d : Naming) (at : Pos) (e : ExpressionTree) → naming_nesting d ≡ n → Fails (run end (item_state first d at e no_expressions) ts) x
-  fails_items x r d at e same = fails_as _ _ x (next_item d at e same) (r d at (expression_then e (expression_trees es)) same)
-
-  pub reads_items : (i : Expression) (goes_on : Bool) (after : List Token) → ReadsItem end n rest (expression_tree i) goes_on after → (list : List Expression) → list ≡ es ++ i ∷ [] →
-      ReadsItems end n first ts (expression_trees list) goes_on after
-  reads_items i goes_on after r list pushed d at e same =
-      next_item d at e same ∙ r d at (expression_then e (expression_trees es)) same
-      ∙ ap (λ q. run end (item_state goes_on d at e q) after) (sym (ap expression_trees pushed ∙ trees_push es i))
+pub reads_columns : (end : Token) (n : ℕ) (rows : ExpressionTree) (ts : List Token) (columns : Option ExpressionTree) (rest : List Token) → IsLength end n ts columns rest →
+    (d : Declaring) (id : Identifier) → site_nesting d.site ≡ n → run end (after_length d id rows) ts ≡ run end (after_columns (with_columns d id rows columns)) rest
+reads_columns end n rows ts None rest l d id same = run_no_columns end d id ts rows l.1 ∙ ap (λ q. run end (after_columns (with_columns d id rows None)) q) (sym l.0)
+reads_columns end n rows ts (Some c) rest l d id same = l d id (Some rows) same
 
 -- What an object begins with
 
-module _ (end : Token) (n : ℕ) (limit : n ≤ 128) (d : Naming) (same : naming_nesting d ≡ n) (ts : List Token) where
-  pub run_assigned : (t : Token) (rest : List Token) → Begins fixed.Assign ts t rest → run end (after_length d) ts ≡ run end (after_assign d) rest
-  run_assigned t rest b = run_assign end d ts t rest b (omega arith)
-
-  pub run_opened : (t : Token) (rest : List Token) → Begins fixed.OpenBrace ts t rest → run end (after_assign d) ts ≡ run end (after_brace d t.at) rest
-  run_opened t rest b = run_braced end d ts t rest b (omega arith)
-
-  valued : is_fixed fixed.OpenBrace (first_of_all end ts).kind ≡ false → run end (after_assign d) ts ≡ run end (operand n (as_whole (as_value d))) ts
-  valued f = run_value end d ts f ∙ ap (λ q. run end (operand q (as_whole (as_value d))) ts) same
-
-  pub fails_value : (x : ParseError) → is_fixed fixed.OpenBrace (first_of_all end ts).kind ≡ false → Refuses end (UpTo 1) (λ c. operand n c) ts x → Fails (run end (after_assign d) ts) x
-  fails_value x f r = fails_as _ _ x (valued f) (r (as_whole (as_value d)) (omega arith))
-
-  pub reads_value : (e : ExpressionTree) (rest : List Token) (i : InitializerTree) → is_fixed fixed.OpenBrace (first_of_all end ts).kind ≡ false →
-      Reads end (UpTo 1) (λ c. operand n c) n ts e rest → EndsAt end 1 rest → i ≡ single e → run end (after_assign d) ts ≡ run end (after_initializer (with_initializer d (Some i))) rest
-  reads_value e rest i f r ends h =
-      valued f ∙ r (as_whole (as_value d)) (omega arith) ∙ run_value_end end d rest n e ends ∙ ap (λ q. run end (after_initializer (with_initializer d (Some q))) rest) (sym h)
+pub run_assigned : (end : Token) (n : ℕ) → n ≤ 128 → (d : Naming) → naming_nesting d ≡ n → (ts : List Token) (t : Token) (rest : List Token) → Begins fixed.Assign ts t rest →
+    run end (after_columns d) ts ≡ run end (after_assign d) rest
+run_assigned end n limit d same ts t rest b = run_assign end d ts t rest b (omega arith)
 
 -- Declarators
 

@@ -1,5 +1,7 @@
 mod RunEnumerations
 mod EnumerationLemmas
+mod RunInitializers
+mod InitializerLemmas
 mod RunDeclarations
 mod DeclarationLemmas
 mod RunExternals

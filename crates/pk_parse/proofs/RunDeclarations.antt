@@ -2,164 +2,117 @@
 use Rattle.std.proofs.Common.{◌≡◌, ℕ, ◌+◌, ◌<◌, ◌≤◌, List, ◌∷◌, Option, Some, None, Bool, ◌&&◌, not, true, false, refl, sym, ap, subst, ◌∙◌, arith}
 use Rattle.std.specs.Option.{is_some}
 use Rattle.pk_parse_expression.proofs.RunOperands.{run_words, same_both}
-use Rattle.pk_ctypes.specs.declared.places.Pos.{Pos}
 use Rattle.pk_lex.specs.declared.token.Token.{Token}
-use Rattle.pk_lex.specs.declared.token.Kind.{Kind}
 use Rattle.pk_lex.specs.declared.token.Kind.TheVariants as kind
 use Rattle.pk_lex.specs.declared.token.Punctuator.TheVariants as mark
 use Rattle.pk_ast.specs.declared.declarations.Specifier.{Specifier}
 use Rattle.pk_ast.specs.declared.expressions.Identifier.{Identifier}
-use Rattle.pk_ast.specs.Trees.{ExpressionTree, ExpressionTrees, no_expressions, single, braced, OneOrMore, EnumerationTree, expression_then}
+use Rattle.pk_ast.specs.Trees.{OneOrMore, ExpressionTree, DimensionsTree, EnumerationTree}
 use Rattle.pk_grammar.specs.declared.signs.Fixed.TheVariants as fixed
 use Rattle.pk_grammar.specs.declared.signs.Operator.{Operator}
 use Rattle.pk_grammar.specs.declared.signs.Operator.TheVariants as operator
 use Rattle.pk_grammar.specs.Languages.{identifier_of}
 use Rattle.pk_grammar.specs.Machine.Signs.{is_fixed, operator_of}
-use Rattle.pk_grammar.specs.Machine.States.{Site, in_a_block, in_a_for, outside, in_declaration, after_braces, Declaring, Naming, as_length, as_value, as_item, as_whole, after_specifiers, after_name, after_length, after_assign, after_brace, after_item, after_initializer, after_comma, operand, complete, Declared}
-use Rattle.pk_grammar.specs.Machine.Steps.{taken, refused, reduced, is_unary, go_on, more_specifiers, next_word, may_open, end_alone, site_nesting, naming_nesting, with_initializer, after_declarator, open_parameters, step, first_item, more_items, goes_on_declaring}
+use Rattle.pk_grammar.specs.Machine.States.{Site, in_a_block, in_a_for, outside, in_declaration, after_braces, Declaring, Naming, Purpose, as_length, as_columns, as_whole, after_specifiers, after_name, after_length, after_columns, after_assign, after_initializer, after_comma, operand, complete, Declared}
+use Rattle.pk_grammar.specs.Machine.Steps.{taken, refused, reduced, is_unary, go_on, more_specifiers, next_word, may_open, end_alone, purpose_level, site_nesting, naming_nesting, with_dimensions, with_initializer, open_parameters, step, goes_on_declaring}
 use Rattle.pk_grammar.specs.Machine.Running.{syntax, deep, first_of_all, run}
 use Rattle.pk_grammar.proofs.CompleteSigns.{strength_least}
 use Rattle.pk_grammar.proofs.CompleteOperands.{same_false, same_true}
-use Rattle.pk_grammar.proofs.CompleteDeclarations.{step_first_name, step_no_first_name, step_length, step_last_comma, step_next_name}
+use Rattle.pk_grammar.proofs.CompleteDeclarations.{step_first_name, step_no_first_name, step_length, step_length_end, step_columns, step_columns_end, step_next_name}
 use Rattle.pk_grammar.proofs.CompleteEnumerations.{step_no_braces, step_alone, step_name_behind, step_no_name_behind}
 use Rattle.pk_grammar.proofs.SpellsSigns.{is_this}
 use Rattle.pk_parse_expression.specs.Parsing.{Begins, words, follows, EndsAt}
 use Rattle.pk_parse_expression.proofs.RunLemmas.{run_takes, run_deep, run_refused, run_alike}
-use Rattle.pk_parse_expression.proofs.RunOperators.{operator_kind, ends_other, follows_no_comma}
-use Rattle.pk_parse.specs.Parts.{type_state, EndsType, CanDeclare, needs_name, named_first, after_declaration}
+use Rattle.pk_parse.specs.Parts.{type_state, EndsType, length_state, next_length_state, CanDeclare, needs_name, named_first, after_declaration}
 
 pub run_specifiers : (end : Token) (s : Site) → site_nesting s ≤ 128 → (ts : List Token) (specs : OneOrMore Specifier) →
     run end (after_specifiers s specs) ts ≡ run end (after_specifiers s (words specs ts).0) (words specs ts).1
 run_specifiers end s h ts specs = run_words end (λ q. after_specifiers s q) (site_nesting s) h (λ q t w e. ap (λ v. more_specifiers s q t v) e) ts specs
 
--- A declarator's name, and its length
+-- A declarator's name, and its dimensions
 
-abbrev pub naming : Declaring → Identifier → Option ExpressionTree → Naming
-naming d id l = record { declaring = d; name = id; length = l }
+abbrev pub naming : Declaring → Identifier → Option DimensionsTree → Naming
+naming d id l = record { declaring = d; name = id; dimensions = l }
 
-step_length_end : (m : ℕ) (e : ExpressionTree) (d : Declaring) (id : Identifier) (t : Token) → t.kind ≡ kind.Punctuator mark.CloseBracket →
-    step (complete m e (as_whole (as_length d id))) t ≡ taken (site_nesting d.site) (after_length (naming d id (Some e)))
-unfolding reduced
-step_length_end m e d id t is = rw is
+abbrev pub with_columns : Declaring → Identifier → ExpressionTree → Option ExpressionTree → Naming
+with_columns d id rows columns = with_dimensions d id (record { length = rows; columns = columns })
+
+-- what a length is for
+abbrev pub length_purpose : Declaring → Identifier → Option ExpressionTree → Purpose
+length_purpose d id None = as_length d id
+length_purpose d id (Some rows) = as_columns d id rows
+
+pub level : (d : Declaring) (id : Identifier) (rows : Option ExpressionTree) → purpose_level (length_purpose d id rows) ≤ 2
+level d id None = omega arith
+level d id (Some rows) = omega arith
+
+step_open_length : (d : Declaring) (id : Identifier) (rows : Option ExpressionTree) (t : Token) → t.kind ≡ kind.Punctuator mark.OpenBracket →
+    step (length_state d id rows) t ≡ taken (site_nesting d.site + 1) (operand (site_nesting d.site + 1) (as_whole (length_purpose d id rows)))
+step_open_length d id None t is = step_length d id t is
+step_open_length d id (Some rows) t is = step_columns d id rows t is
+
+step_close_length : (m : ℕ) (e : ExpressionTree) (d : Declaring) (id : Identifier) (rows : Option ExpressionTree) (t : Token) → t.kind ≡ kind.Punctuator mark.CloseBracket →
+    step (complete m e (as_whole (length_purpose d id rows))) t ≡ taken (site_nesting d.site) (next_length_state d id rows e)
+step_close_length m e d id None t is = step_length_end m e d id t is
+step_close_length m e d id (Some rows) t is = step_columns_end m e d id rows t is
 
 -- an expression of this level ends, and no `]` comes
-refused_length : (o : Operator) (m : ℕ) (e : ExpressionTree) (d : Declaring) (id : Identifier) (t : Token) → follows o ≤ 2 → is_fixed fixed.CloseBracket t.kind ≡ false →
-    go_on m e (as_whole (as_length d id)) t o ≡ refused
+refused_length : (o : Operator) (m : ℕ) (e : ExpressionTree) (d : Declaring) (id : Identifier) (rows : Option ExpressionTree) (t : Token) → follows o ≤ 2 → is_fixed fixed.CloseBracket t.kind ≡ false →
+    go_on m e (as_whole (length_purpose d id rows)) t o ≡ refused
 unfolding reduced
-refused_length (operator.Step o) m e d id t h f = absurd (omega arith)
-refused_length (operator.Binary o) m e d id t h f = absurd (omega (arith, strength_least o))
-refused_length operator.Question m e d id t h f = absurd (omega arith)
-refused_length (operator.Assignment o) m e d id t h f = same_both (is_unary e) refused
-refused_length operator.Comma m e d id t h f = refl
-refused_length operator.Other m e d id t h f = same_false (is_fixed fixed.CloseBracket t.kind) _ _ f
+refused_length (operator.Step o) m e d id rows t h f = absurd (omega arith)
+refused_length (operator.Binary o) m e d id rows t h f = absurd (omega (arith, strength_least o))
+refused_length operator.Question m e d id rows t h f = absurd (omega arith)
+refused_length (operator.Assignment o) m e d id None t h f = same_both (is_unary e) refused
+refused_length (operator.Assignment o) m e d id (Some rows) t h f = same_both (is_unary e) refused
+refused_length operator.Comma m e d id None t h f = refl
+refused_length operator.Comma m e d id (Some rows) t h f = refl
+refused_length operator.Other m e d id None t h f = same_false (is_fixed fixed.CloseBracket t.kind) _ _ f
+refused_length operator.Other m e d id (Some rows) t h f = same_false (is_fixed fixed.CloseBracket t.kind) _ _ f
 
 -- without a length, what follows is answered as after one
 same_without : (d : Declaring) (id : Identifier) (t : Token) (b : Bool) → is_fixed fixed.OpenParenthesis t.kind ≡ b → (is_fixed fixed.OpenParenthesis t.kind ≡ true → open_parameters d.site d.specifiers d.enumeration d.declarators id ≡ refused) →
-    is_fixed fixed.OpenBracket t.kind ≡ false → step (after_name d id) t ≡ step (after_length (naming d id None)) t
+    is_fixed fixed.OpenBracket t.kind ≡ false → step (after_name d id) t ≡ step (after_columns (naming d id None)) t
 same_without d id t true e h f =
     let k : t.kind ≡ kind.Punctuator mark.OpenParenthesis = is_this fixed.OpenParenthesis t.kind e in
     same_true (is_fixed fixed.OpenParenthesis t.kind) _ _ e ∙ h e ∙ sym (rw k)
 same_without d id t false e h f = same_false (is_fixed fixed.OpenParenthesis t.kind) _ _ e ∙ same_false (is_fixed fixed.OpenBracket t.kind) _ _ f
 
 module _ (end : Token) (d : Declaring) (id : Identifier) (ts : List Token) where
-  pub run_length : (t : Token) (rest : List Token) → Begins fixed.OpenBracket ts t rest → site_nesting d.site + 1 ≤ 128 →
-      run end (after_name d id) ts ≡ run end (operand (site_nesting d.site + 1) (as_whole (as_length d id))) rest
-  run_length t rest b h = run_takes end (after_name d id) ts t rest _ _ b.cut (step_length d id t (is_this fixed.OpenBracket t.kind b.is)) h
-
-  pub deep_length : (t : Token) (rest : List Token) → Begins fixed.OpenBracket ts t rest → 128 < site_nesting d.site + 1 → run end (after_name d id) ts ≡ deep t.at
-  deep_length t rest b h = run_deep end (after_name d id) ts t rest _ _ b.cut (step_length d id t (is_this fixed.OpenBracket t.kind b.is)) h
-
-  pub run_no_length : (n : ℕ) → CanDeclare end d id n ts → is_fixed fixed.OpenBracket (first_of_all end ts).kind ≡ false → run end (after_name d id) ts ≡ run end (after_length (naming d id None)) ts
+  pub run_no_length : (n : ℕ) → CanDeclare end d id n ts → is_fixed fixed.OpenBracket (first_of_all end ts).kind ≡ false → run end (after_name d id) ts ≡ run end (after_columns (naming d id None)) ts
   run_no_length n h f = let t = first_of_all end ts in run_alike end _ _ ts (same_without d id t (is_fixed fixed.OpenParenthesis t.kind) refl h.no_function f)
 
+  pub run_no_columns : (rows : ExpressionTree) → is_fixed fixed.OpenBracket (first_of_all end ts).kind ≡ false → run end (after_length d id rows) ts ≡ run end (after_columns (with_columns d id rows None)) ts
+  run_no_columns rows f = let t = first_of_all end ts in run_alike end _ _ ts (same_false (is_fixed fixed.OpenBracket t.kind) _ _ f)
+
+module _ (end : Token) (d : Declaring) (id : Identifier) (rows : Option ExpressionTree) (ts : List Token) where
+  pub run_length : (t : Token) (rest : List Token) → Begins fixed.OpenBracket ts t rest → site_nesting d.site + 1 ≤ 128 →
+      run end (length_state d id rows) ts ≡ run end (operand (site_nesting d.site + 1) (as_whole (length_purpose d id rows))) rest
+  run_length t rest b h = run_takes end (length_state d id rows) ts t rest _ _ b.cut (step_open_length d id rows t (is_this fixed.OpenBracket t.kind b.is)) h
+
+  pub deep_length : (t : Token) (rest : List Token) → Begins fixed.OpenBracket ts t rest → 128 < site_nesting d.site + 1 → run end (length_state d id rows) ts ≡ deep t.at
+  deep_length t rest b h = run_deep end (length_state d id rows) ts t rest _ _ b.cut (step_open_length d id rows t (is_this fixed.OpenBracket t.kind b.is)) h
+
   pub run_length_end : (m : ℕ) (e : ExpressionTree) (t : Token) (rest : List Token) → Begins fixed.CloseBracket ts t rest → site_nesting d.site ≤ 128 →
-      run end (complete m e (as_whole (as_length d id))) ts ≡ run end (after_length (naming d id (Some e))) rest
-  run_length_end m e t rest b h = run_takes end (complete m e (as_whole (as_length d id))) ts t rest _ _ b.cut (step_length_end m e d id t (is_this fixed.CloseBracket t.kind b.is)) h
+      run end (complete m e (as_whole (length_purpose d id rows))) ts ≡ run end (next_length_state d id rows e) rest
+  run_length_end m e t rest b h =
+      run_takes end (complete m e (as_whole (length_purpose d id rows))) ts t rest _ _ b.cut (step_close_length m e d id rows t (is_this fixed.CloseBracket t.kind b.is)) h
 
   pub no_length_end : (m : ℕ) (e : ExpressionTree) → EndsAt end 2 ts → is_fixed fixed.CloseBracket (first_of_all end ts).kind ≡ false →
-      run end (complete m e (as_whole (as_length d id))) ts ≡ syntax (first_of_all end ts).at
-  no_length_end m e h f = let t = first_of_all end ts in run_refused end _ ts (refused_length (operator_of t.kind) m e d id t h f)
+      run end (complete m e (as_whole (length_purpose d id rows))) ts ≡ syntax (first_of_all end ts).at
+  no_length_end m e h f = let t = first_of_all end ts in run_refused end _ ts (refused_length (operator_of t.kind) m e d id rows t h f)
 
 -- What an object begins with
 
-step_assign : (d : Naming) (t : Token) → t.kind ≡ kind.Punctuator mark.Assign → step (after_length d) t ≡ taken (naming_nesting d) (after_assign d)
+step_assign : (d : Naming) (t : Token) → t.kind ≡ kind.Punctuator mark.Assign → step (after_columns d) t ≡ taken (naming_nesting d) (after_assign d)
 step_assign d t e = rw e
 
-step_brace : (d : Naming) (t : Token) → t.kind ≡ kind.Punctuator mark.OpenBrace → step (after_assign d) t ≡ taken (naming_nesting d) (after_brace d t.at)
-step_brace d t e = rw e
-
-no_comma_after : (k : Kind) (o : Operator) → operator_of k ≡ o → o ≡ operator.Other → is_fixed fixed.Comma k ≡ false
-no_comma_after k o e f = by_comma (is_fixed fixed.Comma k) refl
-  where
-    by_comma : (b : Bool) → is_fixed fixed.Comma k ≡ b → is_fixed fixed.Comma k ≡ false
-    by_comma true g = let h : k ≡ kind.Punctuator mark.Comma = is_this fixed.Comma k g in let x : operator.Comma ≡ operator.Other = sym (ap operator_of h) ∙ e ∙ f in absurd (cc)
-    by_comma false g = g
-
--- an object's value ends as the object does
-same_value : (o : Operator) (m : ℕ) (e : ExpressionTree) (d : Naming) (t : Token) → operator_of t.kind ≡ o → follows o ≤ 1 →
-    go_on m e (as_whole (as_value d)) t o ≡ after_declarator (with_initializer d (Some (single e))) t
-unfolding reduced
-same_value (operator.Step o) m e d t is h = absurd (omega arith)
-same_value (operator.Binary o) m e d t is h = absurd (omega (arith, strength_least o))
-same_value operator.Question m e d t is h = absurd (omega arith)
-same_value (operator.Assignment o) m e d t is h = absurd (omega arith)
-same_value operator.Comma m e d t is h = let k : t.kind ≡ kind.Punctuator mark.Comma = operator_kind operator.Comma t.kind is in sym (rw k)
-same_value operator.Other m e d t is h = sym (same_false (is_fixed fixed.Comma t.kind) _ _ (no_comma_after t.kind _ is refl))
-
 module _ (end : Token) (d : Naming) (ts : List Token) where
-  pub run_assign : (t : Token) (rest : List Token) → Begins fixed.Assign ts t rest → naming_nesting d ≤ 128 → run end (after_length d) ts ≡ run end (after_assign d) rest
-  run_assign t rest b h = run_takes end (after_length d) ts t rest _ _ b.cut (step_assign d t (is_this fixed.Assign t.kind b.is)) h
+  pub run_assign : (t : Token) (rest : List Token) → Begins fixed.Assign ts t rest → naming_nesting d ≤ 128 → run end (after_columns d) ts ≡ run end (after_assign d) rest
+  run_assign t rest b h = run_takes end (after_columns d) ts t rest _ _ b.cut (step_assign d t (is_this fixed.Assign t.kind b.is)) h
 
-  pub run_no_assign : is_fixed fixed.Assign (first_of_all end ts).kind ≡ false → run end (after_length d) ts ≡ run end (after_initializer (with_initializer d None)) ts
+  pub run_no_assign : is_fixed fixed.Assign (first_of_all end ts).kind ≡ false → run end (after_columns d) ts ≡ run end (after_initializer (with_initializer d None)) ts
   run_no_assign f = let t = first_of_all end ts in run_alike end _ _ ts (same_false (is_fixed fixed.Assign t.kind) _ _ f)
-
-  pub run_braced : (t : Token) (rest : List Token) → Begins fixed.OpenBrace ts t rest → naming_nesting d ≤ 128 → run end (after_assign d) ts ≡ run end (after_brace d t.at) rest
-  run_braced t rest b h = run_takes end (after_assign d) ts t rest _ _ b.cut (step_brace d t (is_this fixed.OpenBrace t.kind b.is)) h
-
-  pub run_value : is_fixed fixed.OpenBrace (first_of_all end ts).kind ≡ false → run end (after_assign d) ts ≡ run end (operand (naming_nesting d) (as_whole (as_value d))) ts
-  run_value f = let t = first_of_all end ts in run_alike end _ _ ts (same_false (is_fixed fixed.OpenBrace t.kind) _ _ f)
-
-  pub run_value_end : (m : ℕ) (e : ExpressionTree) → EndsAt end 1 ts → run end (complete m e (as_whole (as_value d))) ts ≡ run end (after_initializer (with_initializer d (Some (single e)))) ts
-  run_value_end m e h = let t = first_of_all end ts in run_alike end _ _ ts (same_value (operator_of t.kind) m e d t refl h)
-
--- The items of a braced list
-
-step_item_end : (m : ℕ) (e : ExpressionTree) (d : Naming) (at : Pos) (es : ExpressionTrees) (t : Token) → t.kind ≡ kind.Punctuator mark.CloseBrace →
-    step (complete m e (as_whole (as_item d at es))) t ≡ taken (naming_nesting d) (after_initializer (with_initializer d (Some (braced at (first_item es e) (more_items es e)))))
-unfolding reduced
-step_item_end m e d at es t is = rw is
-
-step_item_comma : (m : ℕ) (e : ExpressionTree) (d : Naming) (at : Pos) (es : ExpressionTrees) (t : Token) → t.kind ≡ kind.Punctuator mark.Comma →
-    step (complete m e (as_whole (as_item d at es))) t ≡ taken (naming_nesting d) (after_item d at (first_item es e) (more_items es e))
-unfolding reduced
-step_item_comma m e d at es t is = rw is
-
-pub run_first_item : (end : Token) (d : Naming) (at : Pos) (ts : List Token) → run end (after_brace d at) ts ≡ run end (operand (naming_nesting d) (as_whole (as_item d at no_expressions))) ts
-run_first_item end d at ts = run_alike end (after_brace d at) (operand (naming_nesting d) (as_whole (as_item d at no_expressions))) ts refl
-
-module _ (end : Token) (d : Naming) (at : Pos) (es : ExpressionTrees) (ts : List Token) where
-  pub run_item_end : (m : ℕ) (e : ExpressionTree) (t : Token) (rest : List Token) → Begins fixed.CloseBrace ts t rest → naming_nesting d ≤ 128 →
-      run end (complete m e (as_whole (as_item d at es))) ts ≡ run end (after_initializer (with_initializer d (Some (braced at (first_item es e) (more_items es e))))) rest
-  run_item_end m e t rest b h = run_takes end (complete m e (as_whole (as_item d at es))) ts t rest _ _ b.cut (step_item_end m e d at es t (is_this fixed.CloseBrace t.kind b.is)) h
-
-  pub run_item_comma : (m : ℕ) (e : ExpressionTree) (t : Token) (rest : List Token) → Begins fixed.Comma ts t rest → naming_nesting d ≤ 128 →
-      run end (complete m e (as_whole (as_item d at es))) ts ≡ run end (after_item d at (first_item es e) (more_items es e)) rest
-  run_item_comma m e t rest b h = run_takes end (complete m e (as_whole (as_item d at es))) ts t rest _ _ b.cut (step_item_comma m e d at es t (is_this fixed.Comma t.kind b.is)) h
-
-  pub no_item_end : (m : ℕ) (e : ExpressionTree) → EndsAt end 1 ts → is_fixed fixed.CloseBrace (first_of_all end ts).kind ≡ false → is_fixed fixed.Comma (first_of_all end ts).kind ≡ false →
-      run end (complete m e (as_whole (as_item d at es))) ts ≡ syntax (first_of_all end ts).at
-  unfolding reduced
-  no_item_end m e h f g =
-      let t = first_of_all end ts in
-      run_refused end _ ts (ap (λ o. go_on m e (as_whole (as_item d at es)) t o) (ends_other _ (follows_no_comma t.kind g h)) ∙ same_false (is_fixed fixed.CloseBrace t.kind) _ _ f)
-
-module _ (end : Token) (d : Naming) (at : Pos) (e : ExpressionTree) (es : ExpressionTrees) (ts : List Token) where
-  pub run_last_comma : (t : Token) (rest : List Token) → Begins fixed.CloseBrace ts t rest → naming_nesting d ≤ 128 →
-      run end (after_item d at e es) ts ≡ run end (after_initializer (with_initializer d (Some (braced at e es)))) rest
-  run_last_comma t rest b h = run_takes end (after_item d at e es) ts t rest _ _ b.cut (step_last_comma d at e es t (is_this fixed.CloseBrace t.kind b.is)) h
-
-  pub run_next_item : is_fixed fixed.CloseBrace (first_of_all end ts).kind ≡ false → run end (after_item d at e es) ts ≡ run end (operand (naming_nesting d) (as_whole (as_item d at (expression_then e es)))) ts
-  run_next_item f = let t = first_of_all end ts in run_alike end _ _ ts (same_false (is_fixed fixed.CloseBrace t.kind) _ _ f)
 
 -- After a declarator
 

@@ -7,7 +7,7 @@ use Rattle.pk_lex.specs.declared.token.Token.{Token}
 use Rattle.pk_lex.specs.declared.token.Kind.{Kind}
 use Rattle.pk_ast.specs.declared.expressions.Identifier.{Identifier}
 use Rattle.pk_ast.specs.declared.expressions.Expression.{Expression}
-use Rattle.pk_ast.specs.declared.expressions.Expression.TheVariants.{Name, Call', Index', Constant, Character, Parenthesized', Postfix', Prefix', Unary', Cast', Binary', Conditional', Assignment', Comma'}
+use Rattle.pk_ast.specs.declared.expressions.Expression.TheVariants.{Name}
 use Rattle.pk_ast.specs.declared.statements.BlockItem.{BlockItem}
 use Rattle.pk_ast.specs.Trees.{ExpressionTree, name, ForStartTree, StatementTree, block, label, case, default, if_then, if_else, switch, while, do_while, for_loop, expression_statement, ItemTrees, no_items, declaration_then, statement_then}
 use Rattle.pk_ast.specs.Lists.{append_items}
@@ -223,19 +223,7 @@ operand_takes n c t start.Other h = absurd (h refl)
 no_name_labels : (n : ℕ) (e : Expression) (o : Outer) (t : Token) → ((id : Identifier) → e ≢ Name id) → labelled n (expression_tree e) o t ≡ refused
 unfolding expression_tree
 no_name_labels n (Name id) o t h = absurd (h id refl)
-no_name_labels n (Call' id shape es) o t h = refl
-no_name_labels n (Index' id at p e) o t h = refl
-no_name_labels n (Constant at ty v) o t h = refl
-no_name_labels n (Character at v) o t h = refl
-no_name_labels n (Parenthesized' at p e) o t h = refl
-no_name_labels n (Postfix' op at p e) o t h = refl
-no_name_labels n (Prefix' op at p e) o t h = refl
-no_name_labels n (Unary' op at p e) o t h = refl
-no_name_labels n (Cast' at specs p e) o t h = refl
-no_name_labels n (Binary' op at p a q b) o t h = refl
-no_name_labels n (Conditional' at p a q b r c) o t h = refl
-no_name_labels n (Assignment' op at p a q b) o t h = refl
-no_name_labels n (Comma' at p a q b) o t h = refl
+no_name_labels n _ o t h = refl
 
 tree_of_name : (id : Identifier) → expression_tree (Name id) ≡ name id
 unfolding expression_tree

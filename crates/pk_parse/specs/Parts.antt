@@ -1,5 +1,5 @@
 -- The parts of declarations, statements and external definitions: in which states they begin, and to which they lead.
-use Rattle.std.specs.Prelude.{◌≡◌, ℕ, ◌+◌, List, [], ◌∷◌, ◌++◌, Option, Some, None, Bool, ◌&&◌, not, true, false}
+use Rattle.std.specs.Prelude.{◌≡◌, ◌⊎◌, ℕ, ◌+◌, List, [], ◌∷◌, ◌++◌, Option, Some, None, Bool, ◌&&◌, not, true, false}
 use Rattle.std.specs.Option.{is_some}
 use Rattle.pk_ctypes.specs.declared.places.Pos.{Pos}
 use Rattle.pk_lex.specs.declared.token.Token.{Token}
@@ -7,15 +7,15 @@ use Rattle.pk_ast.specs.declared.declarations.Specifier.{Specifier}
 use Rattle.pk_ast.specs.declared.expressions.Identifier.{Identifier}
 use Rattle.pk_ast.specs.declared.units.Storage.{Storage}
 use Rattle.pk_ast.specs.Lists.{append_items}
-use Rattle.pk_ast.specs.Trees.{OneOrMore, ExpressionTree, ExpressionTrees, braced, DeclaratorTree, EnumeratorTree, EnumerationTree, block, ItemTrees, no_items, BlockTree, ParameterTree, TypedefTree, ExternalTree, function, type_names}
+use Rattle.pk_ast.specs.Trees.{OneOrMore, ExpressionTree, ExpressionTrees, expression_then, InitializerItemTree, item_row, braced, DeclaratorTree, EnumeratorTree, EnumerationTree, block, ItemTrees, no_items, BlockTree, ParameterTree, TypedefTree, ExternalTree, function, type_names}
 use Rattle.pk_grammar.specs.declared.signs.Fixed.{Fixed}
 use Rattle.pk_grammar.specs.declared.signs.Fixed.TheVariants as fixed
 use Rattle.pk_grammar.specs.Grammar.{conditional_expression, any_expression}
 use Rattle.pk_grammar.specs.Machine.Signs.{is_fixed, specifier_word}
-use Rattle.pk_grammar.specs.Machine.States.{Head, OpenBlock, function_block, inner_block, Site, in_a_block, in_a_for, outside, Declaring, Naming, EnumerationSite, in_declaration, in_typedef, Enumerating, Enumerated, Purpose, as_enumerator, as_whole, State, top, after_storage, type_specifiers, at_enumerator, after_enumerator_name, after_braces, after_specifiers, after_item, after_initializer, parameter_specifiers, parameter_name, block_item, after_static, after_statement, operand, complete}
-use Rattle.pk_grammar.specs.Machine.Steps.{refused, taken, wanted, site_nesting, enumerating_nesting, with_initializer, declared_at, next_word, end_in_enum, may_open, open_parameters, purpose_level, end_purpose, step}
-use Rattle.pk_grammar.specs.Machine.Running.{first_of_all}
-use Rattle.pk_parse_expression.specs.Parsing.{EndsAt, UpTo, Reads}
+use Rattle.pk_grammar.specs.Machine.States.{Head, OpenBlock, function_block, inner_block, Site, in_a_block, in_a_for, outside, Declaring, Naming, Initializing, Initialized, EnumerationSite, in_declaration, in_typedef, Enumerating, Enumerated, Purpose, as_enumerator, as_whole, State, top, after_storage, type_specifiers, at_enumerator, after_enumerator_name, after_braces, after_specifiers, after_name, after_length, after_columns, at_initializer_item, at_row_item, after_item, after_initializer, parameter_specifiers, parameter_name, block_item, after_static, after_statement, operand, complete}
+use Rattle.pk_grammar.specs.Machine.Steps.{refused, taken, wanted, site_nesting, enumerating_nesting, initializing_nesting, with_dimensions, with_initializer, with_item, declared_at, next_word, end_in_enum, may_open, open_parameters, purpose_level, end_purpose, step}
+use Rattle.pk_grammar.specs.Machine.Running.{first_of_all, run}
+use Rattle.pk_parse_expression.specs.Parsing.{Begins, EndsAt, UpTo, Reads}
 
 -- Enumerations
 
@@ -82,6 +82,85 @@ with_enumerators d more =
 abbrev pub with_qualifiers : EnumerationTree → List Specifier → EnumerationTree
 with_qualifiers e more = record { enumerators = e.enumerators; qualifiers = e.qualifiers ++ more }
 
+-- Lists in braces
+
+-- an item comes
+abbrev pub GoesOn : Token → Bool → List Token → Type 0
+GoesOn end another ts = another ≡ true → is_fixed fixed.CloseBrace (first_of_all end ts).kind ≡ false
+
+-- behind an item comes a comma, and then another item
+pub record IsFollowed (end : Token) (ts : List Token) (rest : List Token) : Type 0 where
+  pub comma : Token
+  pub begins : Begins fixed.Comma ts comma rest
+  pub no_end : is_fixed fixed.CloseBrace (first_of_all end rest).kind ≡ false
+
+-- behind an item comes the `}`, perhaps with a comma before it
+pub record IsLast (ts : List Token) (rest : List Token) : Type 0 where
+  pub before : List Token
+  pub comma : (before ≡ ts) ⊎ ((t : Token) × Begins fixed.Comma ts t before)
+  pub brace : Token
+  pub closes : Begins fixed.CloseBrace before brace rest
+
+abbrev pub EndsItem : Token → List Token → Bool → List Token → Type 0
+EndsItem end ts true rest = IsFollowed end ts rest
+EndsItem end ts false rest = IsLast ts rest
+
+-- Lengths of arrays
+
+-- behind a declarator's name, or behind how many rows it has
+abbrev pub length_state : Declaring → Identifier → Option ExpressionTree → State
+length_state d id None = after_name d id
+length_state d id (Some rows) = after_length d id rows
+
+-- behind one more length
+abbrev pub next_length_state : Declaring → Identifier → Option ExpressionTree → ExpressionTree → State
+next_length_state d id None e = after_length d id e
+next_length_state d id (Some rows) e = after_columns (with_dimensions d id (record { length = rows; columns = Some e }))
+
+-- no `[` comes, or a length in brackets
+abbrev pub IsLength : Token → ℕ → List Token → Option ExpressionTree → List Token → Type 0
+IsLength end n ts None rest = (rest ≡ ts) × (is_fixed fixed.OpenBracket (first_of_all end ts).kind ≡ false)
+IsLength end n ts (Some e) rest =
+    (d : Declaring) (id : Identifier) (rows : Option ExpressionTree) → site_nesting d.site ≡ n →
+    run end (length_state d id rows) ts ≡ run end (next_length_state d id rows e) rest
+
+-- Initializers
+
+-- the `{` was read
+abbrev pub initializer_open : Naming → Pos → Initializing
+initializer_open d at = record { naming = d; brace = at; items = [] }
+
+-- An item comes in the braces of an initializer at this nesting; its first one where a `}` comes.
+pub record CanInitialize (end : Token) (d : Initializing) (n : ℕ) (ts : List Token) : Type 0 where
+  pub nesting : initializing_nesting d ≡ n
+  pub no_end : is_fixed fixed.CloseBrace (first_of_all end ts).kind ≡ true → d.items ≡ []
+
+abbrev pub goes_on_initializing : Initialized → Initializing
+goes_on_initializing d =
+    record {
+      naming = d.naming;
+      brace = d.brace;
+      items = d.items.first ∷ d.items.more;
+    }
+
+-- behind an item: another one is to come, or the braces have ended
+abbrev pub items_state : Bool → Initialized → State
+items_state true d = at_initializer_item (goes_on_initializing d)
+items_state false d = after_initializer (with_initializer d.naming (Some (braced d.brace d.items)))
+
+abbrev pub with_items_more : Initialized → List InitializerItemTree → Initialized
+with_items_more d more =
+    record {
+      naming = d.naming;
+      brace = d.brace;
+      items = record { first = d.items.first; more = d.items.more ++ more };
+    }
+
+-- behind a value of a row: another one is to come, or the row has ended
+abbrev pub row_state : Bool → Initializing → Pos → ExpressionTree → ExpressionTrees → State
+row_state true d at e es = at_row_item d at (expression_then e es)
+row_state false d at e es = after_item (with_item d (item_row at e es))
+
 -- Declarations
 
 -- A declaration at this nesting, of which a name was read; where a `(` follows, it isn't the name of a function.
@@ -128,15 +207,6 @@ abbrev pub after_declaration : Declaring → State
 after_declaration d =
     declared_at d.site
     (record { specifiers = d.specifiers; enumeration = d.enumeration; declarators = d.declarators })
-
--- behind an item of a braced list: another one is to come, or the list has ended
-abbrev pub item_state : Bool → Naming → Pos → ExpressionTree → ExpressionTrees → State
-item_state true d at e es = after_item d at e es
-item_state false d at e es = after_initializer (with_initializer d (Some (braced at e es)))
-
--- an item comes
-abbrev pub GoesOn : Token → Bool → List Token → Type 0
-GoesOn end another ts = another ≡ true → is_fixed fixed.CloseBrace (first_of_all end ts).kind ≡ false
 
 -- No expression before this token, or one that ends somewhere
 abbrev pub IsOptional : Token → ℕ → Fixed → List Token → Option ExpressionTree → List Token → Type 0

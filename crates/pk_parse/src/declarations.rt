@@ -7,24 +7,26 @@ ghost use Rattle.pk_ast.specs.declared.declarations.Specifier.{Specifier};
 ghost use Rattle.pk_ast.specs.declared.expressions.Identifier.{Identifier};
 ghost use Rattle.pk_ast.specs.Lists.{one};
 ghost use Rattle.pk_ast.specs.Trees as tree;
-ghost use Rattle.pk_ast.specs.Views.{expression_tree, expression_trees, initializer_tree, declarator_tree, declarator_trees, declaration_tree};
+ghost use Rattle.pk_ast.specs.Views.{expression_tree, initializer_tree, dimensions_tree, declarator_tree, declarator_trees, declaration_tree};
 ghost use Rattle.pk_grammar.specs.Outcomes.{nesting_limit};
 ghost use Rattle.pk_grammar.specs.Machine.Running.{first_of_all, run, Fails};
 ghost use Rattle.pk_grammar.specs.Machine.Signs.{is_fixed};
 ghost use Rattle.pk_parse_expression.specs.Parsing.{Begins};
-ghost use Rattle.pk_parse.specs.Parts.{type_state, CanDeclare, IsInner, needs_name, AtNames, named_first, with_declarators, after_declaration, item_state, GoesOn};
+ghost use Rattle.pk_parse.specs.Parts.{type_state, length_state, IsLength, CanDeclare, IsInner, needs_name, AtNames, named_first, with_declarators, after_declaration};
 ghost use Rattle.pk_grammar.specs.Machine.States as states;
 ghost use Rattle.pk_grammar.specs.Machine.Steps as steps;
 
 use crate::enumerations::type_words;
+use crate::initializers::value;
 use pk_ast::{
-    Declaration, Declarator, Enumeration, Expression, Identifier, Initializer, Specifier,
+    Declaration, Declarator, Dimensions, Enumeration, Expression, Identifier, Initializer,
+    Specifier,
 };
 use pk_grammar::{Fixed, ParseError};
 use pk_lex::Token;
 use pk_parse_expression::{Parser, identifier, keeping, nested};
 
-// The length of an array, in its brackets.
+// A length in brackets behind a declarator's name, or behind how many rows it has, where one comes.
 fn length<'a>(
     parser: Parser,
     tokens: &'a [Token],
@@ -32,14 +34,10 @@ fn length<'a>(
 ) -> Result<(Option<Expression>, &'a [Token]), ParseError>
     requires { outside ≤ nesting_limit }
     ensures { MatchResult result
-        (λ r. ((d : states.Declaring) (id : Identifier) → CanDeclare parser.end d id outside tokens.now →
-        run parser.end (states.after_name d id) tokens.now
-        ≡ run parser.end
-        (states.after_length
-        (record { declaring = d; name = id; length = option_map expression_tree r.0 })) r.1.now)
+        (λ r. IsLength parser.end outside tokens.now (option_map expression_tree r.0) r.1.now
         × (length r.1.now ≤ length tokens.now))
-        (λ x. (d : states.Declaring) (id : Identifier) → CanDeclare parser.end d id outside tokens.now →
-        Fails (run parser.end (states.after_name d id) tokens.now) x) }
+        (λ x. (d : states.Declaring) (id : Identifier) (rows : Option tree.ExpressionTree) →
+        steps.site_nesting d.site ≡ outside → Fails (run parser.end (length_state d id rows) tokens.now) x) }
 {
     let Some((open, after)) = parser.take(tokens, Fixed::OpenBracket) else {
         return Ok((None, tokens));
@@ -50,89 +48,28 @@ fn length<'a>(
     Ok((Some(length), last))
 }
 
-// An item of a braced list, and whether another one comes. Otherwise the `}` was read too.
-fn item<'a>(
+// The length of an array, or how many rows and columns it has.
+fn dimensions<'a>(
     parser: Parser,
     tokens: &'a [Token],
     outside: u32,
-) -> Result<(Expression, bool, &'a [Token]), ParseError>
+) -> Result<(Option<Dimensions>, &'a [Token]), ParseError>
     requires { outside ≤ nesting_limit }
     ensures { MatchResult result
-        (λ r. ((d : states.Naming) (at : Pos) (es : tree.ExpressionTrees) → steps.naming_nesting d ≡ outside →
-        run parser.end (states.operand outside (states.as_whole (states.as_item d at es))) tokens.now
-        ≡ run parser.end (item_state r.1 d at (steps.first_item es (expression_tree r.0))
-        (steps.more_items es (expression_tree r.0))) r.2.now) × GoesOn parser.end r.1 r.2.now
-        × (length r.2.now < length tokens.now))
-        (λ x. (d : states.Naming) (at : Pos) (es : tree.ExpressionTrees) → steps.naming_nesting d ≡ outside →
-        Fails (run parser.end (states.operand outside (states.as_whole (states.as_item d at es))) tokens.now) x) }
-{
-    let (item, after) = parser.assignment(tokens, outside)?;
-    if let Some((_, last)) = parser.take(after, Fixed::CloseBrace) {
-        return Ok((item, false, last));
-    }
-    let ((_, next), item) = keeping(parser.expect(after, Fixed::Comma), item)?;
-    if let Some((_, last)) = parser.take(next, Fixed::CloseBrace) {
-        return Ok((item, false, last));
-    }
-    Ok((item, true, next))
-}
-
-// The items of a braced list after those that were read, and the `}`.
-fn more_items<'a>(
-    parser: Parser,
-    another: bool,
-    tokens: &'a [Token],
-    outside: u32,
-) -> Result<(Vec<Expression>, &'a [Token]), ParseError>
-    requires limit { outside ≤ nesting_limit }
-    requires item { GoesOn parser.end another tokens.now }
-    ensures { MatchResult result
-        (λ r. ((d : states.Naming) (at : Pos) (e : tree.ExpressionTree) → steps.naming_nesting d ≡ outside →
-        run parser.end (item_state another d at e tree.no_expressions) tokens.now
-        ≡ run parser.end (item_state false d at e (expression_trees r.0.items)) r.1.now)
+        (λ r. ((d : states.Declaring) (id : Identifier) → CanDeclare parser.end d id outside tokens.now →
+        run parser.end (states.after_name d id) tokens.now
+        ≡ run parser.end (states.after_columns
+        (record { declaring = d; name = id; dimensions = option_map dimensions_tree r.0 })) r.1.now)
         × (length r.1.now ≤ length tokens.now))
-        (λ x. (d : states.Naming) (at : Pos) (e : tree.ExpressionTree) → steps.naming_nesting d ≡ outside →
-        Fails (run parser.end (item_state another d at e tree.no_expressions) tokens.now) x) }
+        (λ x. (d : states.Declaring) (id : Identifier) → CanDeclare parser.end d id outside tokens.now →
+        Fails (run parser.end (states.after_name d id) tokens.now) x) }
 {
-    let mut list = Vec::new(parser.alloc);
-    let mut another = another;
-    let mut rest = tokens;
-    loop {
-        if !another {
-            return Ok((list, rest));
-        }
-        let (item, goes_on, after) = item(parser, rest, outside)?;
-        list.push(item)?;
-        another = goes_on;
-        rest = after;
-    }
-}
-
-// What an object begins with, after the `=`.
-fn value<'a>(
-    parser: Parser,
-    tokens: &'a [Token],
-    outside: u32,
-) -> Result<(Initializer, &'a [Token]), ParseError>
-    requires { outside ≤ nesting_limit }
-    ensures { MatchResult result
-        (λ r. ((d : states.Naming) → steps.naming_nesting d ≡ outside →
-        run parser.end (states.after_assign d) tokens.now
-        ≡ run parser.end (states.after_initializer
-        (steps.with_initializer d (Some (initializer_tree r.0)))) r.1.now) × (length r.1.now ≤ length tokens.now))
-        (λ x. (d : states.Naming) → steps.naming_nesting d ≡ outside →
-        Fails (run parser.end (states.after_assign d) tokens.now) x) }
-{
-    if let Some((open, after)) = parser.take(tokens, Fixed::OpenBrace) {
-        let (first, another, following) = item(parser, after, outside)?;
-        let ((more, rest), first) = keeping(
-            more_items(parser, another, following, outside),
-            first,
-        )?;
-        return Ok((Initializer::braced(open.at, first, more), rest));
-    }
-    let (value, rest) = parser.assignment(tokens, outside)?;
-    Ok((Initializer::single(value), rest))
+    let (rows, after) = length(parser, tokens, outside)?;
+    let Some(rows) = rows else {
+        return Ok((None, after));
+    };
+    let ((columns, rest), rows) = keeping(length(parser, after, outside), rows)?;
+    Ok((Some(Dimensions::new(rows, columns)), rest))
 }
 
 // What an object begins with, where it is given.
@@ -144,12 +81,12 @@ fn initializer<'a>(
     requires { outside ≤ nesting_limit }
     ensures { MatchResult result
         (λ r. ((d : states.Naming) → steps.naming_nesting d ≡ outside →
-        run parser.end (states.after_length d) tokens.now
+        run parser.end (states.after_columns d) tokens.now
         ≡ run parser.end (states.after_initializer
         (steps.with_initializer d (option_map initializer_tree r.0))) r.1.now)
         × (length r.1.now ≤ length tokens.now))
         (λ x. (d : states.Naming) → steps.naming_nesting d ≡ outside →
-        Fails (run parser.end (states.after_length d) tokens.now) x) }
+        Fails (run parser.end (states.after_columns d) tokens.now) x) }
 {
     let Some((_, after)) = parser.take(tokens, Fixed::Assign) else {
         return Ok((None, tokens));
@@ -174,9 +111,12 @@ fn declarator<'a>(
         (λ x. (d : states.Declaring) → CanDeclare parser.end d name outside tokens.now →
         Fails (run parser.end (states.after_name d name) tokens.now) x) }
 {
-    let (length, after) = length(parser, tokens, outside)?;
-    let ((initializer, rest), length) = keeping(initializer(parser, after, outside), length)?;
-    Ok((Declarator::new(name, length, initializer), rest))
+    let (dimensions, after) = dimensions(parser, tokens, outside)?;
+    let ((initializer, rest), dimensions) = keeping(
+        initializer(parser, after, outside),
+        dimensions,
+    )?;
+    Ok((Declarator::new(name, dimensions, initializer), rest))
 }
 
 /// The objects of a declaration, of which the first one's name was read, and the `;`.

@@ -4,6 +4,7 @@
 mod declarations;
 mod enumerations;
 mod externals;
+mod initializers;
 mod items;
 mod laws;
 mod statements;

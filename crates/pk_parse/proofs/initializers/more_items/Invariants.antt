@@ -1,0 +1,12 @@
+use Rattle.std.proofs.Common.{◌≤◌, length}
+use Rattle.pk_ast.specs.Views.{initializer_item_trees}
+use Rattle.pk_parse.specs.Parts.{GoesOn}
+use Rattle.pk_parse.proofs.InitializerLemmas.{ReadsItems}
+use Rattle.pk_parse.proofs.initializers.more_items.Given as goal
+
+abbrev pub invariant-loop-another : goal.invariant-loop-another
+invariant-loop-another l =
+    ReadsItems l.parser.end l.outside l.fn.another l.tokens (initializer_item_trees l.list.items) l.another l.rest × GoesOn l.parser.end l.another l.rest × (length l.rest ≤ length l.tokens)
+
+abbrev pub decreases-loop-another : goal.decreases-loop-another
+decreases-loop-another l = length l.rest
