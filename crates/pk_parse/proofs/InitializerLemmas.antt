@@ -4,7 +4,7 @@ use Rattle.pk_ctypes.specs.declared.places.Pos.{Pos}
 use Rattle.pk_lex.specs.declared.token.Token.{Token}
 use Rattle.pk_ast.specs.declared.declarations.InitializerItem.{InitializerItem}
 use Rattle.pk_ast.specs.declared.expressions.Expression.{Expression}
-use Rattle.pk_ast.specs.Trees.{OneOrMore, ExpressionTree, ExpressionTrees, no_expressions, expression_then, InitializerItemTree, item_value, item_row, InitializerTree, single, braced}
+use Rattle.pk_ast.specs.Trees.{ExpressionTree, ExpressionTrees, no_expressions, expression_then, InitializerItemTree, item_value, item_row, InitializerTree, single, braced}
 use Rattle.pk_ast.specs.Views.{expression_tree, expression_trees, initializer_item_tree, initializer_item_trees}
 use Rattle.pk_ast.proofs.ListLemmas.{initializer_item_trees-push}
 use Rattle.pk_grammar.specs.declared.failure.ParseError.{ParseError}

@@ -18,10 +18,7 @@ use pk_lex::Token;
 use pk_parse_expression::{Parser, keeping};
 
 // What follows an item of a list in braces: a comma, and whether another one comes behind it. Otherwise the `}` was read too.
-fn item_end<'a>(
-    parser: Parser,
-    tokens: &'a [Token],
-) -> Result<(bool, &'a [Token]), ParseError>
+fn item_end<'a>(parser: Parser, tokens: &'a [Token]) -> Result<(bool, &'a [Token]), ParseError>
     ensures { MatchResult result
         (λ r. EndsItem parser.end tokens.now r.0 r.1.now × (length r.1.now < length tokens.now))
         (λ x. (is_fixed Fixed.CloseBrace (first_of_all parser.end tokens.now).kind ≡ false)
@@ -112,10 +109,7 @@ fn row<'a>(
         Fails (run parser.end (states.at_row_item d at tree.no_expressions) tokens.now) x) }
 {
     let (first, another, following) = row_value(parser, tokens, outside)?;
-    let ((more, rest), first) = keeping(
-        more_values(parser, another, following, outside),
-        first,
-    )?;
+    let ((more, rest), first) = keeping(more_values(parser, another, following, outside), first)?;
     let row = InitializerItem::row(parser.alloc, at, first, more)?;
     Ok((row, rest))
 }

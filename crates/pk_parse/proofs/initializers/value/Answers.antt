@@ -1,4 +1,4 @@
-use Rattle.std.proofs.Common.{sym, ap, ◌∙◌, arith}
+use Rattle.std.proofs.Common.{ap, ◌∙◌, arith}
 use Rattle.pk_ast.specs.Trees.{braced}
 use Rattle.pk_ast.specs.Views.{initializer_item_tree, initializer_item_trees}
 use Rattle.pk_grammar.specs.declared.signs.Fixed.TheVariants as fixed
