@@ -197,7 +197,8 @@ with_declarator d x = record {
 }
 
 abbrev pub with_initializer : Naming → Option InitializerTree → Declared
-with_initializer d i = with_declarator d.declaring (record { name = d.name; dimensions = d.dimensions; initializer = i })
+with_initializer d i =
+    with_declarator d.declaring (record { name = d.name; dimensions = d.dimensions; initializer = i })
 
 abbrev pub whole_declaration : Declared → DeclarationTree
 whole_declaration d =
