@@ -41,7 +41,8 @@ unfoldable mutual
   expression_tree (Name x) = name x
   expression_tree (Call' x shape arguments) = call x (expressions_of_row arguments)
   expression_tree (Index' x at p e) = index x at (expression_tree e)
-  expression_tree (Element' x at p e column_at q c) = element x at (expression_tree e) column_at (expression_tree c)
+  expression_tree (Element' x p e q c) =
+      element x.value.array x.value.at (expression_tree e) x.value.column_at (expression_tree c)
   expression_tree (Constant at t n) = constant at t n
   expression_tree (Character at n) = character at n
   expression_tree (Parenthesized' at p e) = parenthesized at (expression_tree e)

@@ -21,6 +21,14 @@ pub struct Identifier {
     pub is_tag: bool,
 }
 
+/// What an element of an array of rows and columns is named by: the array's name, and the place of each `[`.
+#[derive(Drop)]
+pub struct ElementName {
+    pub array: Identifier,
+    pub at: Pos,
+    pub column_at: Pos,
+}
+
 /// An expression. Operators stand with their places; parentheses are kept.
 #[derive(Drop)]
 pub enum Expression {
@@ -29,12 +37,10 @@ pub enum Expression {
     Call(Identifier, Vec<Expression>),
     /// An element of an array, by its name and the place of the `[`.
     Index(Identifier, Pos, Box<Expression>),
-    /// An element of an array of rows and columns, by its name and the place of each `[`.
+    /// An element of an array of rows and columns. Its name lies apart, so that other expressions aren't larger for it.
     Element {
-        name: Identifier,
-        at: Pos,
+        name: Box<ElementName>,
         row: Box<Expression>,
-        column_at: Pos,
         column: Box<Expression>,
     },
     /// An integer constant with its type and value.
@@ -115,14 +121,13 @@ impl Expression {
         ensures { IfOk result (λ e. expression_tree e
             ≡ tree.element name at (expression_tree row) column_at (expression_tree column)) }
     {
-        let (row, column) = both_boxed(alloc, row, column)?;
-        Ok(Expression::Element {
-            name,
+        let name = ElementName {
+            array: name,
             at,
-            row,
             column_at,
-            column,
-        })
+        };
+        let (name, row, column) = all_boxed(alloc, name, row, column)?;
+        Ok(Expression::Element { name, row, column })
     }
 
     pub fn constant(at: Pos, int_type: IntType, value: u64) -> Expression
@@ -281,7 +286,7 @@ impl Expression {
                 Expression::Name(name) => return name.at,
                 Expression::Call(name, _) => return name.at,
                 Expression::Index(name, _, _) => return name.at,
-                Expression::Element { name, .. } => return name.at,
+                Expression::Element { name, .. } => return name.array.at,
                 Expression::Constant(at, _, _) => return *at,
                 Expression::Character(at, _) => return *at,
                 Expression::Parenthesized(at, _) => return *at,

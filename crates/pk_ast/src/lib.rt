@@ -15,7 +15,7 @@ pub use declarations::{
     Declaration, Declarator, Dimensions, Enumeration, Enumerator, Initializer, InitializerItem,
     InitializerRow, Specifier, SpecifierWord, Specifiers,
 };
-pub use expressions::{Expression, Identifier};
+pub use expressions::{ElementName, Expression, Identifier};
 pub use operators::{AssignmentOperator, BinaryOperator, StepOperator, UnaryOperator};
 pub use statements::{Block, BlockItem, ForHead, ForStart, Statement};
 pub use units::{External, Function, Parameter, Storage, StorageWord, Typedef, Unit};

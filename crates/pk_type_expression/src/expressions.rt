@@ -56,16 +56,11 @@ pub fn expression(
             let index = used(alloc, scope, notes, inner)?;
             operators::element(alloc, notes, x.at, *at, scope.lookup(*x), index)
         }
-        Expression::Element {
-            name: x,
-            at: _,
-            row,
-            column_at: _,
-            column,
-        } => {
+        Expression::Element { name, row, column } => {
+            let x = name.array;
             let first = used(alloc, scope, notes, row)?;
             let second = used(alloc, scope, notes, column)?;
-            operators::row_element(alloc, notes, x.at, scope.lookup(*x), first, second)
+            operators::row_element(alloc, notes, x.at, scope.lookup(x), first, second)
         }
         Expression::Constant(_, t, n) => operators::constant(alloc, *t, *n),
         Expression::Character(_, n) => operators::character(alloc, n),

@@ -14,7 +14,7 @@ IsOne e =
     ((x : _) × (e ≡ variants.Name x))
     ⊎ ((x : _) × (xs : _) × (e ≡ variants.Call x xs))
     ⊎ ((x : _) × (at : _) × (a : _) × (e ≡ variants.Index x at a))
-    ⊎ ((x : _) × (at : _) × (a : _) × (column_at : _) × (b : _) × (e ≡ variants.Element x at a column_at b))
+    ⊎ ((x : _) × (a : _) × (b : _) × (e ≡ variants.Element x a b))
     ⊎ ((at : _) × (t : _) × (v : _) × (e ≡ variants.Constant at t v))
     ⊎ ((at : _) × (v : _) × (e ≡ variants.Character at v))
     ⊎ ((at : _) × (a : _) × (e ≡ variants.Parenthesized at a))
