@@ -35,7 +35,7 @@ unfolding expression_tree
 one e (inl p) = ap unary (sym p.1)
 one e (inr (inl p)) = ap unary (sym p.2)
 one e (inr (inr (inl p))) = ap unary (sym p.3)
-one e (inr (inr (inr (inl p)))) = ap unary (sym p.5)
+one e (inr (inr (inr (inl p)))) = ap unary (sym p.3)
 one e (inr (inr (inr (inr (inl p))))) = ap unary (sym p.3)
 one e (inr (inr (inr (inr (inr (inl p)))))) = ap unary (sym p.2)
 one e (inr (inr (inr (inr (inr (inr (inl p))))))) = ap unary (sym p.2)

@@ -9,7 +9,7 @@ use Rattle.pk_type_scope.specs.Scopes.{names_in, scoping_of}
 use Rattle.pk_type_scope.specs.Notes.{noted_in}
 use Rattle.pk_type_expression.specs.Views.{known_of}
 use Rattle.pk_type_expression.proofs.ArmLemmas as arm
-use Rattle.pk_type_expression.proofs.PartLemmas.{one_part, two_parts, three_parts, cast_parts, call_parts}
+use Rattle.pk_type_expression.proofs.PartLemmas.{one_part, two_parts, three_parts, element_parts, cast_parts, call_parts}
 use Rattle.pk_type_expression.proofs.ResultLemmas.{whatever}
 use Rattle.pk_type_expression.proofs.WalkLemmas.{next, next_notes, next_mentions, next_values, at_end, end_notes, end_mentions, end_values, begin_values}
 use Rattle.pk_type_expression.proofs.expressions.+expressions.Goals as goal
@@ -45,12 +45,12 @@ expression-returns-in_ok-index-in-Index-clause-known t c =
 pub expression-returns-in_ok-second-in-Element-clause-notes : goal.expression-returns-in_ok-second-in-Element-clause-notes
 unfolding expression_tree
 expression-returns-in_ok-second-in-Element-clause-notes t c =
-    on_ok_weaker c.row_element.result (arm.row_element_notes (names_in (scoping_of c.args.scope.now)) _ _ _ _ _ _ _ _ _ _ _ (two_parts (λ a b. ast.element c.in-Element.x c.in-Element.at a c.in-Element.column_at b) _ _ _ _ _ (ap expression_tree c.in-Element.is) c.deref-in-Element.ensures c.deref-in-Element-2.ensures) c.lookup-in-Element.ensures c.in_ok-first-in-Element.ensures.notes c.in_ok-second-in-Element.ensures.notes) c.row_element.ensures.notes
+    on_ok_weaker c.row_element.result (arm.row_element_notes (names_in (scoping_of c.args.scope.now)) _ _ _ _ _ _ _ _ _ _ _ (element_parts _ _ _ _ _ _ _ (ap expression_tree c.in-Element.is) c.deref-in-Element.ensures c.deref-in-Element-2.ensures c.deref-in-Element-3.ensures) c.lookup-in-Element.ensures c.in_ok-first-in-Element.ensures.notes c.in_ok-second-in-Element.ensures.notes) c.row_element.ensures.notes
 
 pub expression-returns-in_ok-second-in-Element-clause-known : goal.expression-returns-in_ok-second-in-Element-clause-known
 unfolding expression_tree
 expression-returns-in_ok-second-in-Element-clause-known t c =
-    IfOk-weaker c.row_element.result _ _ (λ v h. arm.row_element_known (names_in (scoping_of c.args.scope.now)) _ _ _ _ _ _ _ _ _ (known_of v) _ _ (two_parts (λ a b. ast.element c.in-Element.x c.in-Element.at a c.in-Element.column_at b) _ _ _ _ _ (ap expression_tree c.in-Element.is) c.deref-in-Element.ensures c.deref-in-Element-2.ensures) c.lookup-in-Element.ensures c.in_ok-first-in-Element.ensures.known c.in_ok-second-in-Element.ensures.known h) c.row_element.ensures.known
+    IfOk-weaker c.row_element.result _ _ (λ v h. arm.row_element_known (names_in (scoping_of c.args.scope.now)) _ _ _ _ _ _ _ _ _ (known_of v) _ _ (element_parts _ _ _ _ _ _ _ (ap expression_tree c.in-Element.is) c.deref-in-Element.ensures c.deref-in-Element-2.ensures c.deref-in-Element-3.ensures) c.lookup-in-Element.ensures c.in_ok-first-in-Element.ensures.known c.in_ok-second-in-Element.ensures.known h) c.row_element.ensures.known
 
 pub expression-returns-in-Constant-clause-notes : goal.expression-returns-in-Constant-clause-notes
 unfolding expression_tree
