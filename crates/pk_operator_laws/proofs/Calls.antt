@@ -5,7 +5,7 @@ use Rattle.pk_ctypes.specs.declared.places.Pos.{Pos}
 use Rattle.pk_ast.specs.declared.declarations.Specifier.{Specifier}
 use Rattle.pk_ast.specs.declared.expressions.Identifier.{Identifier}
 use Rattle.pk_ast.specs.Trees as ast
-use Rattle.pk_ast.specs.Trees.{OneOrMore, ExpressionTree, ExpressionTrees, no_expressions, expression_then, InitializerTree, single, braced, DeclaratorTree, EnumeratorTree, EnumerationTree, DeclarationTree, ForStartTree, declaration, expression, StatementTree, ItemTrees, no_items, declaration_then, statement_then}
+use Rattle.pk_ast.specs.Trees.{OneOrMore, ExpressionTree, ExpressionTrees, no_expressions, expression_then, InitializerItemTree, item_value, item_row, InitializerTree, single, braced, DimensionsTree, DeclaratorTree, EnumeratorTree, EnumerationTree, DeclarationTree, ForStartTree, declaration, expression, StatementTree, ItemTrees, no_items, declaration_then, statement_then}
 use Rattle.pk_typed.specs.declared.units.CallSite.{CallSite}
 use Rattle.pk_type_scope.specs.declared.declarations.Callee.{Callee}
 use Rattle.pk_type_scope.specs.declared.declarations.Callee.TheVariants.{Ordinary, Any, Assume, Assert, Abort}
@@ -16,17 +16,18 @@ use Rattle.pk_type_scope.specs.Declarations.{Names, site_of, own_site}
 use Rattle.pk_type_scope.specs.Specifiers.{type_name_among}
 use Rattle.pk_type_expression.specs.Typed.{calls, calls_in_all}
 use Rattle.pk_type_declaration.specs.declared.words.Words.{Words}
-use Rattle.pk_type_declaration.specs.Constants.{after_constant}
-use Rattle.pk_type_declaration.specs.Declarations.{after_optional_length, after_initializer, after_head, after_declarator, after_declarators}
+use Rattle.pk_type_declaration.specs.Constants.{after_constant, after_length}
+use Rattle.pk_type_declaration.specs.Declarations.{after_columns, after_dimensions, after_initializer, after_head, after_declarator, after_declarators}
 use Rattle.pk_type_declaration.specs.Enumerations.{words_at, after_tag, next_number, enumerator_value, after_enumerator_value, after_enumerator, after_enumerators, after_words}
-use Rattle.pk_type_declaration.specs.Starts.{after_numbers, given}
+use Rattle.pk_type_declaration.specs.Initializers.{followed_by, item_values, items_values, braced_values, given}
+use Rattle.pk_type_declaration.specs.Starts.{after_numbers}
 use Rattle.pk_type_declaration.specs.Statics.{after_static_head, after_static, after_statics, after_declaration, after_static_declaration, after_block_declaration}
 use Rattle.pk_type_declaration.specs.Walks.{Walked, Adding, here, after_value, after_values}
 use Rattle.pk_type_statement.specs.Statements as statements
 use Rattle.pk_type_statement.specs.Statements.{Passed, after, after_items, on, inside, with_case, with_default, in_switch, after_start, after_optional_value, after_optional_effect, after_return}
 use Rattle.pk_access_laws.specs.Operators.{Counting}
 use Rattle.pk_access_laws.specs.Laws.{in_calls}
-use Rattle.pk_operator_laws.specs.Trees.{in_expression, in_expressions, in_optional, in_initializer, in_declarator, in_declarators, in_enumerators, in_enumeration, in_declaration, in_start, in_statement, in_items}
+use Rattle.pk_operator_laws.specs.Trees.{in_expression, in_expressions, in_optional, in_initializer_item, in_initializer_items, in_initializer, in_dimensions, in_declarator, in_declarators, in_enumerators, in_enumeration, in_declaration, in_start, in_statement, in_items}
 
 calls_append : (q : Counting) (xs ys : List CallSite) → in_calls q (xs ++ ys) ≡ in_calls q xs + in_calls q ys
 calls_append q [] ys = omega arith
@@ -53,6 +54,7 @@ mutual
   calls_count q d (ast.name x) = omega arith
   calls_count q d (ast.call x es) = omega (arith, calls_append q (own_site x.at (d x)) (calls_in_all d es), own_counts q x.at (d x), all_calls_count q d es)
   calls_count q d (ast.index x at e) = omega (arith, calls_count q d e)
+  calls_count q d (ast.element x at e column_at c) = omega (arith, calls_append q (calls d e) (calls d c), calls_count q d e, calls_count q d c)
   calls_count q d (ast.constant at t n) = omega arith
   calls_count q d (ast.character at n) = omega arith
   calls_count q d (ast.parenthesized at e) = calls_count q d e
@@ -82,18 +84,41 @@ value_sited q add e w = omega (arith, calls_append q w.calls (calls (here w) e),
 values_sited : {F : Type 0} (q : Counting) (add : Adding F) (es : ExpressionTrees) (w : Walked F) → so_far q (after_values add es w) ≤ so_far q w + in_expressions q es
 values_sited q add es w = omega (arith, calls_append q w.calls (calls_in_all (here w) es), all_calls_count q (here w) es)
 
-length_sited : {F : Type 0} (q : Counting) (add : Adding F) (e : Option ExpressionTree) (w : Walked F) → so_far q (after_optional_length add e w) ≤ so_far q w + in_optional q e
-length_sited q add None w = omega arith
-length_sited q add (Some e) w = value_sited q add e w
+columns_sited : {F : Type 0} (q : Counting) (add : Adding F) (at : Pos) (e : Option ExpressionTree) (w : Walked F) → so_far q (after_columns add at e w) ≤ so_far q w + in_optional q e
+columns_sited q add at None w = omega arith
+columns_sited q add at (Some e) w = value_sited q add e w
+
+dimensions_sited : {F : Type 0} (q : Counting) (add : Adding F) (at : Pos) (d : Option DimensionsTree) (w : Walked F) → so_far q (after_dimensions add at d w) ≤ so_far q w + in_dimensions q d
+dimensions_sited q add at None w = omega arith
+dimensions_sited q add at (Some d) w = omega (arith, columns_sited q add at d.columns (after_length add d.length w), value_sited q add d.length w)
+
+-- the values of items
+pub followed_counts : (q : Counting) (es fs : ExpressionTrees) → in_expressions q (followed_by es fs) ≡ in_expressions q es + in_expressions q fs
+unfolding in_expressions
+followed_counts q no_expressions fs = omega arith
+followed_counts q (expression_then e es) fs = omega (arith, followed_counts q es fs)
+
+item_counts : (q : Counting) (i : InitializerItemTree) → in_expressions q (item_values i) ≡ in_initializer_item q i
+unfolding in_expressions
+item_counts q (item_value e) = omega arith
+item_counts q (item_row at e es) = omega arith
+
+items_count : (q : Counting) (is : List InitializerItemTree) → in_expressions q (items_values is) ≡ in_initializer_items q is
+unfolding in_expressions
+items_count q [] = omega arith
+items_count q (i ∷ is) = omega (arith, followed_counts q (item_values i) (items_values is), item_counts q i, items_count q is)
+
+pub braced_counts : (q : Counting) (at : Pos) (is : OneOrMore InitializerItemTree) → in_expressions q (braced_values is) ≡ in_initializer q (Some (braced at is))
+braced_counts q at is = omega (arith, followed_counts q (item_values is.first) (items_values is.more), item_counts q is.first, items_count q is.more)
 
 initializer_sited : {F : Type 0} (q : Counting) (add : Adding F) (i : Option InitializerTree) (w : Walked F) → so_far q (after_initializer add i w) ≤ so_far q w + in_initializer q i
 initializer_sited q add None w = omega arith
 initializer_sited q add (Some (single e)) w = value_sited q add e w
-initializer_sited q add (Some (braced at e es)) w = omega (arith, values_sited q add es (after_value add e w), value_sited q add e w)
+initializer_sited q add (Some (braced at is)) w = omega (arith, values_sited q add (braced_values is) w, braced_counts q at is)
 
 declarator_sited : {F : Type 0} (q : Counting) (add : Adding F) (words : Words) (d : DeclaratorTree) (w : Walked F) → so_far q (after_declarator add words d w) ≤ so_far q w + in_declarator q d
 unfolding after_declarator
-declarator_sited q add words d w = omega (arith, initializer_sited q add d.initializer (after_head add words d w), length_sited q add d.length w)
+declarator_sited q add words d w = omega (arith, initializer_sited q add d.initializer (after_head add words d w), dimensions_sited q add d.name.at d.dimensions w)
 
 declarators_sited : {F : Type 0} (q : Counting) (add : Adding F) (words : Words) (ds : List DeclaratorTree) (w : Walked F) → so_far q (after_declarators add words ds w) ≤ so_far q w + in_declarators q ds
 unfolding after_declarators
@@ -133,11 +158,11 @@ given_counts : (q : Counting) (i : Option InitializerTree) → in_expressions q 
 unfolding in_expressions
 given_counts q None = omega arith
 given_counts q (Some (single e)) = omega arith
-given_counts q (Some (braced at e es)) = omega arith
+given_counts q (Some (braced at is)) = omega (arith, braced_counts q at is)
 
 static_sited : {F : Type 0} (q : Counting) (add : Adding F) (words : Words) (d : DeclaratorTree) (w : Walked F) → so_far q (after_static add words d w) ≤ so_far q w + in_declarator q d
 unfolding after_static
-static_sited q add words d w = omega (arith, numbers_sited q add (given d.initializer) (after_static_head add words d w), given_counts q d.initializer, length_sited q add d.length w)
+static_sited q add words d w = omega (arith, numbers_sited q add (given d.initializer) (after_static_head add words d w), given_counts q d.initializer, dimensions_sited q add d.name.at d.dimensions w)
 
 statics_sited : {F : Type 0} (q : Counting) (add : Adding F) (words : Words) (ds : List DeclaratorTree) (w : Walked F) → so_far q (after_statics add words ds w) ≤ so_far q w + in_declarators q ds
 unfolding after_statics

@@ -5,13 +5,13 @@ use Rattle.pk_lex.specs.declared.token.Token.{Token}
 use Rattle.pk_ast.specs.declared.declarations.Specifier.{Specifier}
 use Rattle.pk_ast.specs.declared.expressions.Identifier.{Identifier}
 use Rattle.pk_ast.specs.Trees as ast
-use Rattle.pk_ast.specs.Trees.{OneOrMore, ExpressionTree, ExpressionTrees, no_expressions, expression_then, InitializerTree, single, braced, DeclaratorTree, EnumeratorTree, EnumerationTree, DeclarationTree, ForStartTree, declaration, expression, StatementTree, ItemTrees, no_items, declaration_then, statement_then, BlockTree, ExternalTree, function, objects, type_names}
+use Rattle.pk_ast.specs.Trees.{OneOrMore, ExpressionTree, ExpressionTrees, no_expressions, expression_then, InitializerItemTree, item_value, item_row, InitializerTree, single, braced, DimensionsTree, DeclaratorTree, EnumeratorTree, EnumerationTree, DeclarationTree, ForStartTree, declaration, expression, StatementTree, ItemTrees, no_items, declaration_then, statement_then, BlockTree, ExternalTree, function, objects, type_names}
 use Rattle.pk_grammar.specs.Languages.{Marked, Language, One, identifier_of, ◌⊙◌}
 use Rattle.pk_grammar.specs.Grammar as grammar
-use Rattle.pk_grammar.specs.Grammar.{spelled, spelled_list, spelled_more, optional, array_length, initializer, declarator, more_declarators, enumerator, enumerator_value, more_enumerators, type_words, declared, test, for_start, statement, block_items, function_end, external, externals}
+use Rattle.pk_grammar.specs.Grammar.{spelled, spelled_list, spelled_more, optional, array_length, dimensions, initializer_item, more_initializer_items, initializer, declarator, more_declarators, enumerator, enumerator_value, more_enumerators, type_words, declared, test, for_start, statement, block_items, function_end, external, externals}
 use Rattle.pk_grammar.specs.Outcomes.{unmarked}
 use Rattle.pk_access_laws.specs.Operators.{Counting}
-use Rattle.pk_operator_laws.specs.Trees.{in_expression, in_expressions, in_optional, in_initializer, in_declarator, in_declarators, in_enumerators, in_enumeration, in_declaration, in_start, in_statement, in_items, in_block, in_external, in_externals, in_tokens}
+use Rattle.pk_operator_laws.specs.Trees.{in_expression, in_expressions, in_optional, in_initializer_item, in_initializer_items, in_initializer, in_dimensions, in_declarator, in_declarators, in_enumerators, in_enumeration, in_declaration, in_start, in_statement, in_items, in_block, in_external, in_externals, in_tokens}
 use Rattle.pk_operator_laws.specs.Laws.{OperatorsAreTheTokens}
 
 abbrev counted : Counting → List Marked → ℕ
@@ -48,6 +48,9 @@ mutual
   expressions q (ast.index x at e) n ts h =
       let i = h.second in let j = i.first in
       omega (arith, cut q h, cut q i, cut q j, token_counts q at j.first j.first.holds.1, expressions q e _ _ j.second)
+  expressions q (ast.element x at e column_at c) n ts h =
+      let i = h.second in let j = i.first in let k = i.second in let l = k.second in let m = l.first in
+      omega (arith, cut q h, cut q i, cut q j, cut q k, cut q l, cut q m, token_counts q at j.first j.first.holds.1, expressions q e _ _ j.second, token_counts q column_at m.first m.first.holds.1, expressions q c _ _ m.second)
   expressions q (ast.constant at t v) n ts h = omega arith
   expressions q (ast.character at v) n ts h = omega arith
   expressions q (ast.parenthesized at e) n ts h = let i = h.first in omega (arith, cut q h, cut q i, expressions q e _ _ i.second)
@@ -83,22 +86,36 @@ optionals q l (Some e) n ts h = expressions q e n ts h.is
 
 -- ---- declarations
 
-all_items : (q : Counting) (e : ExpressionTree) (es : ExpressionTrees) (n : ℕ) (ts : List Marked) → spelled_list (expression_then e es) n ts → in_expression q e + in_expressions q es ≤ counted q ts
+row_items : (q : Counting) (e : ExpressionTree) (es : ExpressionTrees) (n : ℕ) (ts : List Marked) → spelled_list (expression_then e es) n ts → in_expression q e + in_expressions q es ≤ counted q ts
 unfolding in_expressions
-all_items q e es n ts h = lists q (expression_then e es) n ts h
+row_items q e es n ts h = lists q (expression_then e es) n ts h
+
+initializer_items : (q : Counting) (i : InitializerItemTree) (n : ℕ) (ts : List Marked) → initializer_item i n ts → in_initializer_item q i ≤ counted q ts
+initializer_items q (item_value e) n ts h = expressions q e _ _ h.is
+initializer_items q (item_row at e es) n ts h = let i = h.second in omega (arith, cut q h, cut q i, row_items q e es _ _ i.first.is)
+
+all_initializer_items : (q : Counting) (is : List InitializerItemTree) (n : ℕ) (ts : List Marked) → more_initializer_items is n ts → in_initializer_items q is ≤ counted q ts
+all_initializer_items q [] n ts h = omega arith
+all_initializer_items q (x ∷ xs) n ts h =
+    let i = h.second in omega (arith, cut q h, cut q i, initializer_items q x _ _ i.first, all_initializer_items q xs _ _ i.second)
 
 initializers : (q : Counting) (i : Option InitializerTree) (n : ℕ) (ts : List Marked) → initializer i n ts → in_initializer q i ≤ counted q ts
 initializers q None n ts h = omega arith
 initializers q (Some (single e)) n ts h = omega (arith, cut q h, expressions q e _ _ h.second.is)
-initializers q (Some (braced at e es)) n ts h =
-    let i = h.second in let j = i.second in omega (arith, cut q h, cut q i, cut q j, all_items q e es _ _ j.first.is)
+initializers q (Some (braced at is)) n ts h =
+    let i = h.second in let j = i.second in let k = j.first in
+    omega (arith, cut q h, cut q i, cut q j, cut q k, initializer_items q is.first _ _ k.first, all_initializer_items q is.more _ _ k.second)
 
 lengths : (q : Counting) (e : Option ExpressionTree) (n : ℕ) (ts : List Marked) → array_length e n ts → in_optional q e ≤ counted q ts
 lengths q None n ts h = omega arith
 lengths q (Some e) n ts h = let i = h.first in omega (arith, cut q h, cut q i, expressions q e _ _ i.second.is)
 
+all_dimensions : (q : Counting) (d : Option DimensionsTree) (n : ℕ) (ts : List Marked) → dimensions d n ts → in_dimensions q d ≤ counted q ts
+all_dimensions q None n ts h = omega arith
+all_dimensions q (Some d) n ts h = omega (arith, cut q h, lengths q (Some d.length) _ _ h.first, lengths q d.columns _ _ h.second)
+
 one_declarator : (q : Counting) (d : DeclaratorTree) (n : ℕ) (ts : List Marked) → declarator d n ts → in_declarator q d ≤ counted q ts
-one_declarator q d n ts h = let i = h.second in omega (arith, cut q h, cut q i, lengths q d.length _ _ i.first, initializers q d.initializer _ _ i.second)
+one_declarator q d n ts h = let i = h.second in omega (arith, cut q h, cut q i, all_dimensions q d.dimensions _ _ i.first, initializers q d.initializer _ _ i.second)
 
 all_declarators : (q : Counting) (ds : List DeclaratorTree) (n : ℕ) (ts : List Marked) → more_declarators ds n ts → in_declarators q ds ≤ counted q ts
 all_declarators q [] n ts h = omega arith

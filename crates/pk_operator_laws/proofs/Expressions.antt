@@ -202,6 +202,7 @@ mutual
   expressions q d n (ast.call x es) =
       let m = n + length (own_site x.at (d x)) in omega (arith, typed_call_counts q (d x) n x.at (typed_all d m es), lists q d m es)
   expressions q d n (ast.index x at e) = omega (arith, element_counts q at (value_of (typed d n e)) (d x), value_counts q (typed d n e), expressions q d n e)
+  expressions q d n (ast.element x at e column_at c) = omega arith
   expressions q d n (ast.constant at t v) = omega arith
   expressions q d n (ast.character at v) = omega arith
   expressions q d n (ast.parenthesized at e) = expressions q d n e

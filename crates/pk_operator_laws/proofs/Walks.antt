@@ -5,19 +5,20 @@ use Rattle.pk_ctypes.specs.declared.places.Pos.{Pos}
 use Rattle.pk_ast.specs.declared.declarations.Specifier.{Specifier}
 use Rattle.pk_ast.specs.Trees.{OneOrMore, ExpressionTree, ExpressionTrees, InitializerTree, single, braced, DeclaratorTree, EnumeratorTree, EnumerationTree, DeclarationTree}
 use Rattle.pk_typed.specs.Trees as tree
-use Rattle.pk_typed.specs.Trees.{value_before, DeclaredTree}
+use Rattle.pk_typed.specs.Trees.{DeclaredTree}
 use Rattle.pk_type_scope.specs.declared.declarations.Declaration.{Declaration}
 use Rattle.pk_type_scope.specs.declared.declarations.Declaration.TheVariants.{Object, Function, Enumerator, TypeName}
 use Rattle.pk_type_scope.specs.Specifiers.{type_name_among}
-use Rattle.pk_type_expression.specs.Typed.{of_both}
 use Rattle.pk_type_declaration.specs.declared.words.Words.{Words}
 use Rattle.pk_type_declaration.specs.Declarations.{after_head, after_declarator, scalar_tree, array_tree, object_tree, declarator_tree_at, declarator_trees_at}
 use Rattle.pk_type_declaration.specs.Enumerations.{words_at, after_tag, next_number, enumerator_value, after_enumerator, after_words, hidden, hidden_by, word_trees_at}
+use Rattle.pk_type_declaration.specs.Initializers.{braced_values}
 use Rattle.pk_type_declaration.specs.Statics.{after_static, static_trees_at, declaration_trees_at, static_declaration_at, block_declaration_at}
-use Rattle.pk_type_declaration.specs.Walks.{Walked, Adding, here, after_value, value_at, effect_at, values_at}
+use Rattle.pk_type_declaration.specs.Walks.{Walked, Adding, here, value_at, effect_at, values_at}
 use Rattle.pk_access_laws.specs.Operators.{Counting, in_value, in_effect, in_values, in_declared, in_all_declared, if_some}
 use Rattle.pk_operator_laws.specs.Trees.{in_expression, in_expressions, in_initializer, in_declarators, in_declaration}
 use Rattle.pk_operator_laws.proofs.Parts.{mapped, both}
+use Rattle.pk_operator_laws.proofs.Calls.{braced_counts}
 use Rattle.pk_operator_laws.proofs.Expressions.{values_are, effects_are, lists_are}
 
 -- ---- expressions
@@ -37,24 +38,21 @@ scalar_there : {F : Type 0} (q : Counting) (n : ℕ) (at : Pos) (i : Option Init
 scalar_there q n at None w = omega arith
 scalar_there q n at (Some (single e)) w =
     omega (arith, mapped (λ v. tree.scalar_object n at (Some v)) (in_value q) (in_declared q) (λ v. omega arith) (value_at w e), value_there q w e)
-scalar_there q n at (Some (braced brace e es)) w = omega arith
+scalar_there q n at (Some (braced brace is)) w = omega arith
 
-array_there : {F : Type 0} (q : Counting) (add : Adding F) (n : ℕ) (at : Pos) (i : Option InitializerTree) (w : Walked F) → if_some (in_declared q) (array_tree add n at i w) ≤ in_initializer q i
-unfolding in_values
-array_there q add n at None w = omega arith
-array_there q add n at (Some (single e)) w = omega arith
-array_there q add n at (Some (braced brace e es)) w =
-    let v = after_value add e w in
-    let all = both value_before (in_value q) (in_values q) (in_values q) (λ x xs. omega arith) (value_at w e) (values_at v es) in
-    omega (arith, all, value_there q w e, values_there q v es, mapped (λ vs. tree.array_object n at (Some vs)) (in_values q) (in_declared q) (λ vs. omega arith) (of_both value_before (value_at w e) (values_at v es)))
+array_there : {F : Type 0} (q : Counting) (n : ℕ) (at : Pos) (i : Option InitializerTree) (w : Walked F) → if_some (in_declared q) (array_tree n at i w) ≤ in_initializer q i
+array_there q n at None w = omega arith
+array_there q n at (Some (single e)) w = omega arith
+array_there q n at (Some (braced brace is)) w =
+    omega (arith, braced_counts q brace is, values_there q w (braced_values is), mapped (λ vs. tree.array_object n at (Some vs)) (in_values q) (in_declared q) (λ vs. omega arith) (values_at w (braced_values is)))
 
-object_there : {F : Type 0} (q : Counting) (add : Adding F) (b : Bool) (n : ℕ) (at : Pos) (i : Option InitializerTree) (w : Walked F) → if_some (in_declared q) (object_tree add b n at i w) ≤ in_initializer q i
-object_there q add true n at i w = array_there q add n at i w
-object_there q add false n at i w = scalar_there q n at i w
+object_there : {F : Type 0} (q : Counting) (b : Bool) (n : ℕ) (at : Pos) (i : Option InitializerTree) (w : Walked F) → if_some (in_declared q) (object_tree b n at i w) ≤ in_initializer q i
+object_there q true n at i w = array_there q n at i w
+object_there q false n at i w = scalar_there q n at i w
 
 declarator_there : {F : Type 0} (q : Counting) (add : Adding F) (words : Words) (d : DeclaratorTree) (w : Walked F) → if_some (in_declared q) (declarator_tree_at add words d w) ≤ in_initializer q d.initializer
 unfolding declarator_tree_at
-declarator_there q add words d w = object_there q add (is_some d.length) (length w.locals) d.name.at d.initializer (after_head add words d w)
+declarator_there q add words d w = object_there q (is_some d.dimensions) (length w.locals) d.name.at d.initializer (after_head add words d w)
 
 declarators_there : {F : Type 0} (q : Counting) (add : Adding F) (words : Words) (ds : List DeclaratorTree) (w : Walked F) → if_some (in_all_declared q) (declarator_trees_at add words ds w) ≤ in_declarators q ds
 unfolding declarator_trees_at

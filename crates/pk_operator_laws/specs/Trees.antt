@@ -1,7 +1,7 @@
 -- What the operators and calls in the trees of a text count, where each counts the number that its place is given.
 use Rattle.std.specs.Prelude.{ℕ, ◌+◌, List, [], ◌∷◌, Option, Some, None}
 use Rattle.pk_lex.specs.declared.token.Token.{Token}
-use Rattle.pk_ast.specs.Trees.{ExpressionTree, name, call, index, constant, character, parenthesized, postfix, prefix, unary, cast, binary, conditional, assignment, comma, ExpressionTrees, no_expressions, expression_then, InitializerTree, single, braced, DeclaratorTree, EnumeratorTree, EnumerationTree, DeclarationTree, ForStartTree, declaration, expression, StatementTree, block, empty, expression_statement, label, case, default, if_then, if_else, switch, while, do_while, for_loop, goto, continue, break, return, ItemTrees, no_items, declaration_then, statement_then, BlockTree, ExternalTree, function, objects, type_names}
+use Rattle.pk_ast.specs.Trees.{ExpressionTree, name, call, index, element, constant, character, parenthesized, postfix, prefix, unary, cast, binary, conditional, assignment, comma, ExpressionTrees, no_expressions, expression_then, InitializerItemTree, item_value, item_row, InitializerTree, single, braced, DimensionsTree, DeclaratorTree, EnumeratorTree, EnumerationTree, DeclarationTree, ForStartTree, declaration, expression, StatementTree, block, empty, expression_statement, label, case, default, if_then, if_else, switch, while, do_while, for_loop, goto, continue, break, return, ItemTrees, no_items, declaration_then, statement_then, BlockTree, ExternalTree, function, objects, type_names}
 use Rattle.pk_access_laws.specs.Operators.{Counting, if_some}
 
 -- an operator at its sign, an index at its `[`, a call at its name
@@ -10,6 +10,7 @@ unfoldable mutual
   in_expression q (name x) = 0
   in_expression q (call x es) = q x.at + in_expressions q es
   in_expression q (index x at e) = q at + in_expression q e
+  in_expression q (element x at e column_at c) = q at + in_expression q e + q column_at + in_expression q c
   in_expression q (constant at t n) = 0
   in_expression q (character at n) = 0
   in_expression q (parenthesized at e) = in_expression q e
@@ -29,13 +30,25 @@ unfoldable mutual
 abbrev pub in_optional : Counting → Option ExpressionTree → ℕ
 in_optional q = if_some (in_expression q)
 
+abbrev pub in_initializer_item : Counting → InitializerItemTree → ℕ
+in_initializer_item q (item_value e) = in_expression q e
+in_initializer_item q (item_row at e es) = in_expression q e + in_expressions q es
+
+abbrev pub in_initializer_items : Counting → List InitializerItemTree → ℕ
+in_initializer_items q [] = 0
+in_initializer_items q (i ∷ is) = in_initializer_item q i + in_initializer_items q is
+
 abbrev pub in_initializer : Counting → Option InitializerTree → ℕ
 in_initializer q None = 0
 in_initializer q (Some (single e)) = in_expression q e
-in_initializer q (Some (braced at e es)) = in_expression q e + in_expressions q es
+in_initializer q (Some (braced at is)) = in_initializer_item q is.first + in_initializer_items q is.more
+
+abbrev pub in_dimensions : Counting → Option DimensionsTree → ℕ
+in_dimensions q None = 0
+in_dimensions q (Some d) = in_expression q d.length + in_optional q d.columns
 
 abbrev pub in_declarator : Counting → DeclaratorTree → ℕ
-in_declarator q d = in_optional q d.length + in_initializer q d.initializer
+in_declarator q d = in_dimensions q d.dimensions + in_initializer q d.initializer
 
 abbrev pub in_declarators : Counting → List DeclaratorTree → ℕ
 in_declarators q [] = 0

@@ -7,13 +7,13 @@ use Rattle.pk_lex.specs.declared.token.Token.{Token}
 use Rattle.pk_ast.specs.declared.declarations.Specifier.{Specifier}
 use Rattle.pk_ast.specs.declared.expressions.Identifier.{Identifier}
 use Rattle.pk_ast.specs.Trees as ast
-use Rattle.pk_ast.specs.Trees.{OneOrMore, ExpressionTree, ExpressionTrees, no_expressions, expression_then, InitializerTree, single, braced, DeclaratorTree, EnumeratorTree, EnumerationTree, DeclarationTree, ForStartTree, declaration, expression, StatementTree, ItemTrees, no_items, declaration_then, statement_then, BlockTree, ExternalTree, function, objects, type_names}
+use Rattle.pk_ast.specs.Trees.{OneOrMore, ExpressionTree, ExpressionTrees, no_expressions, expression_then, InitializerItemTree, item_value, item_row, InitializerTree, single, braced, DimensionsTree, DeclaratorTree, EnumeratorTree, EnumerationTree, DeclarationTree, ForStartTree, declaration, expression, StatementTree, ItemTrees, no_items, declaration_then, statement_then, BlockTree, ExternalTree, function, objects, type_names}
 use Rattle.pk_grammar.specs.Languages.{Marked, Language, One, identifier_of, ◌⊙◌}
 use Rattle.pk_grammar.specs.Grammar as grammar
-use Rattle.pk_grammar.specs.Grammar.{spelled, spelled_list, spelled_more, optional, array_length, initializer, declarator, more_declarators, enumerator, enumerator_value, more_enumerators, type_words, declared, test, for_start, statement, block_items, function_end, external, externals}
+use Rattle.pk_grammar.specs.Grammar.{spelled, spelled_list, spelled_more, optional, array_length, dimensions, initializer_item, more_initializer_items, initializer, declarator, more_declarators, enumerator, enumerator_value, more_enumerators, type_words, declared, test, for_start, statement, block_items, function_end, external, externals}
 use Rattle.pk_grammar.specs.Outcomes.{IsParsed, unmarked}
 use Rattle.pk_places_laws.specs.Places.{OfPlaces}
-use Rattle.pk_unit_laws.specs.Trees.{InExpression, InExpressions, InOptional, InInitializer, InDeclarator, InDeclarators, InEnumerator, InEnumerators, InEnumeration, InDeclaration, InStart, InStatement, InItems, InBlock, InExternal, InExternals}
+use Rattle.pk_unit_laws.specs.Trees.{InExpression, InExpressions, InOptional, InInitializerItem, InInitializerItems, InInitializer, InDimensions, InDeclarator, InDeclarators, InEnumerator, InEnumerators, InEnumeration, InDeclaration, InStart, InStatement, InItems, InBlock, InExternal, InExternals}
 use Rattle.pk_unit_laws.specs.Laws.{PlacesAreTheTokens}
 
 -- the tokens are at such places
@@ -53,6 +53,14 @@ mutual
   expressions P (ast.index x at e) n ts h a =
       let i = h.second in let j = i.first in let b = left P i (right P h a) in
       (name_at P x h.first h.first.holds.1 (left P h a), token_at P at j.first j.first.holds.1 (left P j b), expressions P e _ _ j.second (right P j b))
+  expressions P (ast.element x at e column_at c) n ts h a =
+      let i = h.second in let j = i.first in let k = i.second in let l = k.second in let m = l.first in let r = right P h a in let b = left P i r in let s = left P l (right P k (right P i r)) in (
+        name_at P x h.first h.first.holds.1 (left P h a),
+        token_at P at j.first j.first.holds.1 (left P j b),
+        expressions P e _ _ j.second (right P j b),
+        token_at P column_at m.first m.first.holds.1 (left P m s),
+        expressions P c _ _ m.second (right P m s),
+      )
   expressions P (ast.constant at t v) n ts h a = token_at P at h h.holds.1 a
   expressions P (ast.character at v) n ts h a = token_at P at h h.holds.1 a
   expressions P (ast.parenthesized at e) n ts h a =
@@ -118,22 +126,37 @@ lengths : (P : OfPlaces) (e : Option ExpressionTree) (n : ℕ) (ts : List Marked
 lengths P None n ts h a = tt
 lengths P (Some e) n ts h a = expressions P e _ _ h.first.second.is (right P h.first (left P h a))
 
-items_both : (P : OfPlaces) (e : ExpressionTree) (es : ExpressionTrees) → InExpressions P (expression_then e es) → InExpression P e × InExpressions P es
+all_dimensions : (P : OfPlaces) (d : Option DimensionsTree) (n : ℕ) (ts : List Marked) → dimensions d n ts → Are P ts → InDimensions P d
+all_dimensions P None n ts h a = tt
+all_dimensions P (Some d) n ts h a = (lengths P (Some d.length) _ _ h.first (left P h a), lengths P d.columns _ _ h.second (right P h a))
+
+row_both : (P : OfPlaces) (e : ExpressionTree) (es : ExpressionTrees) → InExpressions P (expression_then e es) → InExpression P e × InExpressions P es
 unfolding InExpressions
-items_both P e es h = h
+row_both P e es h = h
+
+initializer_items : (P : OfPlaces) (i : InitializerItemTree) (n : ℕ) (ts : List Marked) → initializer_item i n ts → Are P ts → InInitializerItem P i
+initializer_items P (item_value e) n ts h a = expressions P e _ _ h.is a
+initializer_items P (item_row at e es) n ts h a =
+    let i = h.second in let b = right P h a in
+    let both = row_both P e es (lists P (expression_then e es) _ _ i.first.is (left P i b)) in
+    (token_at P at h.first h.first.holds.1 (left P h a), both.0, both.1)
+
+all_initializer_items : (P : OfPlaces) (is : List InitializerItemTree) (n : ℕ) (ts : List Marked) → more_initializer_items is n ts → Are P ts → InInitializerItems P is
+all_initializer_items P [] n ts h a = tt
+all_initializer_items P (x ∷ xs) n ts h a =
+    let i = h.second in (initializer_items P x _ _ i.first (left P i (right P h a)), all_initializer_items P xs _ _ i.second (right P i (right P h a)))
 
 initializers : (P : OfPlaces) (i : Option InitializerTree) (n : ℕ) (ts : List Marked) → initializer i n ts → Are P ts → InInitializer P i
 initializers P None n ts h a = tt
 initializers P (Some (single e)) n ts h a = expressions P e _ _ h.second.is (right P h a)
-initializers P (Some (braced at e es)) n ts h a =
-    let i = h.second in let j = i.second in let b = right P h a in
-    let both = items_both P e es (lists P (expression_then e es) _ _ j.first.is (left P j (right P i b))) in
-    (token_at P at i.first i.first.holds.1 (left P i b), both.0, both.1)
+initializers P (Some (braced at is)) n ts h a =
+    let i = h.second in let j = i.second in let k = j.first in let b = right P h a in let c = left P j (right P i b) in
+    (token_at P at i.first i.first.holds.1 (left P i b), initializer_items P is.first _ _ k.first (left P k c), all_initializer_items P is.more _ _ k.second (right P k c))
 
 declarators : (P : OfPlaces) (d : DeclaratorTree) (n : ℕ) (ts : List Marked) → declarator d n ts → Are P ts → InDeclarator P d
 declarators P d n ts h a =
     let i = h.second in
-    (name_at P d.name h.first h.first.holds.1 (left P h a), lengths P d.length _ _ i.first (left P i (right P h a)), initializers P d.initializer _ _ i.second (right P i (right P h a)))
+    (name_at P d.name h.first h.first.holds.1 (left P h a), all_dimensions P d.dimensions _ _ i.first (left P i (right P h a)), initializers P d.initializer _ _ i.second (right P i (right P h a)))
 
 all_declarators : (P : OfPlaces) (ds : List DeclaratorTree) (n : ℕ) (ts : List Marked) → more_declarators ds n ts → Are P ts → InDeclarators P ds
 all_declarators P [] n ts h a = tt

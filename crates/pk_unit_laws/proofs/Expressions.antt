@@ -205,6 +205,7 @@ mutual
   expressions P d n (ast.name x) h = name_in P (d x)
   expressions P d n (ast.call x es) h = typed_call_in P (d x) n x.at (typed_all d (n + length (own_site x.at (d x))) es) h.0 (lists P d (n + length (own_site x.at (d x))) es h.1)
   expressions P d n (ast.index x at e) h = element_in P at (value_of (typed d n e)) (d x) h.1 (value_in P (typed d n e) (expressions P d n e h.2))
+  expressions P d n (ast.element x at e column_at c) h = tt
   expressions P d n (ast.constant at t v) h = tt
   expressions P d n (ast.character at v) h = tt
   expressions P d n (ast.parenthesized at e) h = expressions P d n e h.1
@@ -271,6 +272,7 @@ mutual
   calls_at P d (ast.name x) h = All-nil _
   calls_at P d (ast.call x es) h = together P (own_site x.at (d x)) (calls_in_all d es) (own_at P x.at (d x) h.0) (all_calls_at P d es h.1)
   calls_at P d (ast.index x at e) h = calls_at P d e h.2
+  calls_at P d (ast.element x at e column_at c) h = together P (calls d e) (calls d c) (calls_at P d e h.2) (calls_at P d c h.4)
   calls_at P d (ast.constant at t n) h = All-nil _
   calls_at P d (ast.character at n) h = All-nil _
   calls_at P d (ast.parenthesized at e) h = calls_at P d e h.1
@@ -295,6 +297,7 @@ unfolding first_place_of InExpression
 first_place P (ast.name x) h = h
 first_place P (ast.call x es) h = h.0
 first_place P (ast.index x at e) h = h.0
+first_place P (ast.element x at e column_at c) h = h.0
 first_place P (ast.constant at t n) h = h
 first_place P (ast.character at n) h = h
 first_place P (ast.parenthesized at e) h = h.0

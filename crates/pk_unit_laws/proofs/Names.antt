@@ -8,8 +8,8 @@ use Rattle.pk_ctypes.specs.declared.places.Pos.{Pos}
 use Rattle.pk_ast.specs.declared.declarations.Specifier.{Specifier}
 use Rattle.pk_ast.specs.declared.expressions.Identifier.{Identifier}
 use Rattle.pk_ast.specs.declared.units.Storage.{Storage}
-use Rattle.pk_ast.specs.Names.{specifier_names, expression_names, optional_names, initializer_names, declarator_names, all_declarator_names, enumeration_names, declaration_names, for_start_names, statement_names, item_names, body_names, optional_name, parameter_names, external_names, names_of}
-use Rattle.pk_ast.specs.Trees.{OneOrMore, ExpressionTree, ExpressionTrees, no_expressions, expression_then, InitializerTree, single, braced, DeclaratorTree, EnumeratorTree, EnumerationTree, DeclarationTree, ForStartTree, declaration, expression, StatementTree, block, empty, expression_statement, label, case, default, if_then, if_else, switch, while, do_while, for_loop, goto, continue, break, return, ItemTrees, no_items, declaration_then, statement_then, BlockTree, ParameterTree, FunctionTree, ExternalTree, function, objects, type_names}
+use Rattle.pk_ast.specs.Names.{specifier_names, expression_names, optional_names, initializer_names, dimensions_names, declarator_names, all_declarator_names, enumeration_names, declaration_names, for_start_names, statement_names, item_names, body_names, optional_name, parameter_names, external_names, names_of}
+use Rattle.pk_ast.specs.Trees.{OneOrMore, ExpressionTree, ExpressionTrees, no_expressions, expression_then, InitializerTree, single, braced, DimensionsTree, DeclaratorTree, EnumeratorTree, EnumerationTree, DeclarationTree, ForStartTree, declaration, expression, StatementTree, block, empty, expression_statement, label, case, default, if_then, if_else, switch, while, do_while, for_loop, goto, continue, break, return, ItemTrees, no_items, declaration_then, statement_then, BlockTree, ParameterTree, FunctionTree, ExternalTree, function, objects, type_names}
 use Rattle.pk_typed.specs.Trees as tree
 use Rattle.pk_typed.specs.Trees.{LocalTree, BodyTree, FileObjectTree}
 use Rattle.pk_type_scope.specs.declared.declarations.NamedType.{NamedType}
@@ -18,11 +18,12 @@ use Rattle.pk_type_scope.specs.Failures.{noted}
 use Rattle.pk_type_scope.specs.Scopes.{spelled}
 use Rattle.pk_type_scope.specs.Specifiers.{type_name_among, type_named, word_failures}
 use Rattle.pk_type_declaration.specs.declared.words.Words.{Words}
-use Rattle.pk_type_declaration.specs.Constants.{after_constant}
+use Rattle.pk_type_declaration.specs.Constants.{after_constant, after_length}
 use Rattle.pk_type_declaration.specs.Declarations as declarations
-use Rattle.pk_type_declaration.specs.Declarations.{words_of, text_of, length_at, local_of, after_optional_length, after_initializer, after_object, after_declarator, after_declarators}
+use Rattle.pk_type_declaration.specs.Declarations.{words_of, text_of, length_at, local_of, after_columns, after_dimensions, after_initializer, after_object, after_declarator, after_declarators}
 use Rattle.pk_type_declaration.specs.Enumerations.{words_at, after_tag, next_number, enumerator_value, after_enumerator_value, after_enumerator, after_enumerators, after_words}
-use Rattle.pk_type_declaration.specs.Starts.{after_numbers, given}
+use Rattle.pk_type_declaration.specs.Initializers.{given}
+use Rattle.pk_type_declaration.specs.Starts.{after_numbers}
 use Rattle.pk_type_declaration.specs.Statics.{after_static_head, static_of, after_static, after_statics, after_declaration, after_static_declaration, after_block_declaration}
 use Rattle.pk_type_declaration.specs.Walks.{Walked, Adding, here, failing, after_value, entering}
 use Rattle.pk_type_statement.specs.Statements as statements
@@ -69,14 +70,18 @@ its_text N text w x q z = subst (λ (t : List ℕ). N (utf8_lossy (spelled t x))
 
 -- ---- declarations
 
-length_named : {F : Type 0} (N : OfNames) (text : List ℕ) (add : Adding F) (e : Option ExpressionTree) (w : Walked F) → Named N text w → Named N text (after_optional_length add e w)
-length_named N text add None w z = z
-length_named N text add (Some e) w z = z
+columns_named : {F : Type 0} (N : OfNames) (text : List ℕ) (add : Adding F) (at : Pos) (e : Option ExpressionTree) (w : Walked F) → Named N text w → Named N text (after_columns add at e w)
+columns_named N text add at None w z = z
+columns_named N text add at (Some e) w z = z
+
+dimensions_named : {F : Type 0} (N : OfNames) (text : List ℕ) (add : Adding F) (at : Pos) (d : Option DimensionsTree) (w : Walked F) → Named N text w → Named N text (after_dimensions add at d w)
+dimensions_named N text add at None w z = z
+dimensions_named N text add at (Some d) w z = columns_named N text add at d.columns (after_length add d.length w) z
 
 initializer_named : {F : Type 0} (N : OfNames) (text : List ℕ) (add : Adding F) (i : Option InitializerTree) (w : Walked F) → Named N text w → Named N text (after_initializer add i w)
 initializer_named N text add None w z = z
 initializer_named N text add (Some (single e)) w z = z
-initializer_named N text add (Some (braced at e es)) w z = z
+initializer_named N text add (Some (braced at is)) w z = z
 
 object_named : {F : Type 0} (N : OfNames) (text : List ℕ) (add : Adding F) (words : Words) (is_array : Bool) (n : Option ℕ) (x : Identifier) (w : Walked F) → Spelt N text x → Named N text w →
     Named N text (after_object add words is_array n x w)
@@ -90,7 +95,7 @@ declarator_named : {F : Type 0} (N : OfNames) (text : List ℕ) (add : Adding F)
 unfolding after_declarator
 declarator_named N text add words d w q z =
     initializer_named N text add d.initializer (declarations.after_head add words d w)
-    (object_named N text add words (is_some d.length) (length_at w d.length) d.name (after_optional_length add d.length w) q (length_named N text add d.length w z))
+    (object_named N text add words (is_some d.dimensions) (length_at w d.dimensions) d.name (after_dimensions add d.name.at d.dimensions w) q (dimensions_named N text add d.name.at d.dimensions w z))
 
 declarators_named : {F : Type 0} (N : OfNames) (text : List ℕ) (add : Adding F) (words : Words) (ds : List DeclaratorTree) (w : Walked F) → All (Spelt N text) (all_declarator_names ds) → Named N text w →
     Named N text (after_declarators add words ds w)
@@ -99,7 +104,7 @@ declarators_named N text add words [] w q z = z
 declarators_named N text add words (d ∷ ds) w q z =
     let one = all_left (Spelt N text) (declarator_names d) (all_declarator_names ds) q in
     declarators_named N text add words ds (after_declarator add words d w) (all_right (Spelt N text) (declarator_names d) (all_declarator_names ds) q)
-    (declarator_named N text add words d w (All-head (Spelt N text) d.name (optional_names d.length ++ initializer_names d.initializer) one) z)
+    (declarator_named N text add words d w (All-head (Spelt N text) d.name (dimensions_names d.dimensions ++ initializer_names d.initializer) one) z)
 
 tag_named : {F : Type 0} (N : OfNames) (text : List ℕ) (add : Adding F) (x : Option Identifier) (w : Walked F) → Named N text w → Named N text (after_tag add x w)
 tag_named N text add None w z = z
@@ -146,7 +151,7 @@ unfolding after_static
 static_named N text add words d w q z =
     let head = after_static_head add words d w in
     let v = after_numbers add (given d.initializer) head in
-    let y = numbers_named N text add (given d.initializer) head (length_named N text add d.length w z) in
+    let y = numbers_named N text add (given d.initializer) head (dimensions_named N text add d.name.at d.dimensions w z) in
     record {
       same = y.same;
       locals = y.locals;
@@ -160,7 +165,7 @@ statics_named N text add words [] w q z = z
 statics_named N text add words (d ∷ ds) w q z =
     let one = all_left (Spelt N text) (declarator_names d) (all_declarator_names ds) q in
     statics_named N text add words ds (after_static add words d w) (all_right (Spelt N text) (declarator_names d) (all_declarator_names ds) q)
-    (static_named N text add words d w (All-head (Spelt N text) d.name (optional_names d.length ++ initializer_names d.initializer) one) z)
+    (static_named N text add words d w (All-head (Spelt N text) d.name (dimensions_names d.dimensions ++ initializer_names d.initializer) one) z)
 
 block_declaration_named : {F : Type 0} (N : OfNames) (text : List ℕ) (add : Adding F) (at : Option Pos) (d : DeclarationTree) (w : Walked F) → All (Spelt N text) (declaration_names d) → Named N text w →
     Named N text (after_block_declaration add at d w)
@@ -336,7 +341,7 @@ file_object_named : {F : Type 0} (N : OfNames) (text : List ℕ) (add : Adding F
     AllNamed N text (files.after_object add storage words d f)
 unfolding files.after_object
 file_object_named N text add storage words d f q z = record {
-  walked = numbers_named N text add (given d.initializer) (files.after_head add storage words d f) (length_named N text add d.length f.walked z.walked);
+  walked = numbers_named N text add (given d.initializer) (files.after_head add storage words d f) (dimensions_named N text add d.name.at d.dimensions f.walked z.walked);
   objects = All-push (λ (x : FileObjectTree). N x.name) f.objects _ z.objects (its_text N text f.walked d.name q z.walked);
   functions = z.functions;
 }
@@ -348,7 +353,7 @@ file_objects_named N text add storage words [] f q z = z
 file_objects_named N text add storage words (d ∷ ds) f q z =
     let one = all_left (Spelt N text) (declarator_names d) (all_declarator_names ds) q in
     file_objects_named N text add storage words ds (files.after_object add storage words d f) (all_right (Spelt N text) (declarator_names d) (all_declarator_names ds) q)
-    (file_object_named N text add storage words d f (All-head (Spelt N text) d.name (optional_names d.length ++ initializer_names d.initializer) one) z)
+    (file_object_named N text add storage words d f (All-head (Spelt N text) d.name (dimensions_names d.dimensions ++ initializer_names d.initializer) one) z)
 
 file_declaration_named : {F : Type 0} (N : OfNames) (text : List ℕ) (add : Adding F) (storage : Option Storage) (d : DeclarationTree) (f : Filed F) → All (Spelt N text) (declaration_names d) → AllNamed N text f →
     AllNamed N text (files.after_declaration add storage d f)

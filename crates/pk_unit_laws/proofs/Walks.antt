@@ -5,23 +5,23 @@ use Rattle.std.proofs.lemmas.List.Elements.{All-nil, All-cons, All-append}
 use Rattle.pk_ctypes.specs.declared.places.Pos.{Pos}
 use Rattle.pk_ast.specs.declared.declarations.Specifier.{Specifier}
 use Rattle.pk_ast.specs.declared.expressions.Identifier.{Identifier}
-use Rattle.pk_ast.specs.Trees.{OneOrMore, ExpressionTree, ExpressionTrees, no_expressions, expression_then, InitializerTree, single, braced, DeclaratorTree, EnumeratorTree, EnumerationTree, DeclarationTree}
+use Rattle.pk_ast.specs.Trees.{OneOrMore, ExpressionTree, ExpressionTrees, no_expressions, expression_then, InitializerItemTree, item_value, item_row, InitializerTree, single, braced, DimensionsTree, DeclaratorTree, EnumeratorTree, EnumerationTree, DeclarationTree}
 use Rattle.pk_typed.specs.Trees as tree
-use Rattle.pk_typed.specs.Trees.{value_before}
 use Rattle.pk_typed.specs.declared.units.CallSite.{CallSite}
 use Rattle.pk_type_scope.specs.declared.declarations.Declaration.{Declaration}
 use Rattle.pk_type_scope.specs.declared.declarations.Declaration.TheVariants.{Object, Function, Enumerator, TypeName}
 use Rattle.pk_type_scope.specs.Specifiers.{type_name_among}
 use Rattle.pk_type_expression.specs.Typed.{calls, calls_in_all}
 use Rattle.pk_type_declaration.specs.declared.words.Words.{Words}
-use Rattle.pk_type_declaration.specs.Constants.{after_constant}
-use Rattle.pk_type_declaration.specs.Declarations.{after_optional_length, after_initializer, after_head, after_declarator, after_declarators, scalar_tree, array_tree, object_tree, declarator_tree_at, declarator_trees_at}
+use Rattle.pk_type_declaration.specs.Constants.{after_constant, after_length}
+use Rattle.pk_type_declaration.specs.Declarations.{after_columns, after_dimensions, after_initializer, after_head, after_declarator, after_declarators, scalar_tree, array_tree, object_tree, declarator_tree_at, declarator_trees_at}
 use Rattle.pk_type_declaration.specs.Enumerations.{words_at, after_tag, next_number, enumerator_value, after_enumerator_value, after_enumerator, after_enumerators, after_words, hidden, hidden_by, word_trees_at}
-use Rattle.pk_type_declaration.specs.Starts.{after_numbers, given}
+use Rattle.pk_type_declaration.specs.Initializers.{followed_by, item_values, items_values, braced_values, given}
+use Rattle.pk_type_declaration.specs.Starts.{after_numbers}
 use Rattle.pk_type_declaration.specs.Statics.{after_static_head, after_static, after_statics, static_tree_at, static_trees_at, after_declaration, declaration_trees_at, after_static_declaration, static_declaration_at, after_block_declaration, block_declaration_at}
 use Rattle.pk_type_declaration.specs.Walks.{Walked, Adding, here, after_value, after_values, value_at, effect_at, values_at}
 use Rattle.pk_places_laws.specs.Places.{OfPlaces, InValue, InEffect, InValues, InDeclared}
-use Rattle.pk_unit_laws.specs.Trees.{InExpression, InExpressions, InOptional, InInitializer, InDeclarator, InDeclarators, InEnumerator, InEnumerators, InEnumeration, InDeclaration}
+use Rattle.pk_unit_laws.specs.Trees.{InExpression, InExpressions, InOptional, InInitializerItem, InInitializerItems, InInitializer, InDimensions, InDeclarator, InDeclarators, InEnumerator, InEnumerators, InEnumeration, InDeclaration}
 use Rattle.pk_unit_laws.proofs.Parts.{mapped, both}
 use Rattle.pk_unit_laws.proofs.Expressions.{AtCalls, values_are, effects_are, lists_are, calls_at, all_calls_at}
 
@@ -48,18 +48,41 @@ values_there P w es h = lists_are P (here w) (length w.calls) es h
 
 -- ---- declared objects
 
-length_sited : {F : Type 0} (P : OfPlaces) (add : Adding F) (e : Option ExpressionTree) (w : Walked F) → InOptional P e → Sited P w → Sited P (after_optional_length add e w)
-length_sited P add None w h z = z
-length_sited P add (Some e) w h z = value_sited P add e w h z
+columns_sited : {F : Type 0} (P : OfPlaces) (add : Adding F) (at : Pos) (e : Option ExpressionTree) (w : Walked F) → InOptional P e → Sited P w → Sited P (after_columns add at e w)
+columns_sited P add at None w h z = z
+columns_sited P add at (Some e) w h z = value_sited P add e w h z
+
+dimensions_sited : {F : Type 0} (P : OfPlaces) (add : Adding F) (at : Pos) (d : Option DimensionsTree) (w : Walked F) → InDimensions P d → Sited P w → Sited P (after_dimensions add at d w)
+dimensions_sited P add at None w h z = z
+dimensions_sited P add at (Some d) w h z = columns_sited P add at d.columns (after_length add d.length w) h.1 (value_sited P add d.length w h.0 z)
+
+-- the values of items
+followed_in : (P : OfPlaces) (es fs : ExpressionTrees) → InExpressions P es → InExpressions P fs → InExpressions P (followed_by es fs)
+unfolding InExpressions
+followed_in P no_expressions fs h k = k
+followed_in P (expression_then e es) fs h k = (h.0, followed_in P es fs h.1 k)
+
+item_in : (P : OfPlaces) (i : InitializerItemTree) → InInitializerItem P i → InExpressions P (item_values i)
+unfolding InExpressions
+item_in P (item_value e) h = (h, tt)
+item_in P (item_row at e es) h = (h.1, h.2)
+
+items_in : (P : OfPlaces) (is : List InitializerItemTree) → InInitializerItems P is → InExpressions P (items_values is)
+unfolding InExpressions
+items_in P [] h = tt
+items_in P (i ∷ is) h = followed_in P (item_values i) (items_values is) (item_in P i h.0) (items_in P is h.1)
+
+braced_in : (P : OfPlaces) (is : OneOrMore InitializerItemTree) → InInitializerItem P is.first → InInitializerItems P is.more → InExpressions P (braced_values is)
+braced_in P is h k = followed_in P (item_values is.first) (items_values is.more) (item_in P is.first h) (items_in P is.more k)
 
 initializer_sited : {F : Type 0} (P : OfPlaces) (add : Adding F) (i : Option InitializerTree) (w : Walked F) → InInitializer P i → Sited P w → Sited P (after_initializer add i w)
 initializer_sited P add None w h z = z
 initializer_sited P add (Some (single e)) w h z = value_sited P add e w h z
-initializer_sited P add (Some (braced at e es)) w h z = values_sited P add es (after_value add e w) h.2 (value_sited P add e w h.1 z)
+initializer_sited P add (Some (braced at is)) w h z = values_sited P add (braced_values is) w (braced_in P is h.1 h.2) z
 
 declarator_sited : {F : Type 0} (P : OfPlaces) (add : Adding F) (words : Words) (d : DeclaratorTree) (w : Walked F) → InDeclarator P d → Sited P w → Sited P (after_declarator add words d w)
 unfolding after_declarator
-declarator_sited P add words d w h z = initializer_sited P add d.initializer (after_head add words d w) h.2 (length_sited P add d.length w h.1 z)
+declarator_sited P add words d w h z = initializer_sited P add d.initializer (after_head add words d w) h.2 (dimensions_sited P add d.name.at d.dimensions w h.1 z)
 
 declarators_sited : {F : Type 0} (P : OfPlaces) (add : Adding F) (words : Words) (ds : List DeclaratorTree) (w : Walked F) → InDeclarators P ds → Sited P w → Sited P (after_declarators add words ds w)
 unfolding after_declarators
@@ -69,24 +92,21 @@ declarators_sited P add words (d ∷ ds) w h z = declarators_sited P add words d
 scalar_there : {F : Type 0} (P : OfPlaces) (n : ℕ) (at : Pos) (i : Option InitializerTree) (w : Walked F) → P at → InInitializer P i → IfSome (scalar_tree n at i w) (InDeclared P)
 scalar_there P n at None w p h = (p, tt)
 scalar_there P n at (Some (single e)) w p h = mapped (λ v. tree.scalar_object n at (Some v)) (InValue P) (InDeclared P) (λ v k. (p, k)) (value_at w e) (value_there P w e h)
-scalar_there P n at (Some (braced brace e es)) w p h = tt
+scalar_there P n at (Some (braced brace is)) w p h = tt
 
-array_there : {F : Type 0} (P : OfPlaces) (add : Adding F) (n : ℕ) (at : Pos) (i : Option InitializerTree) (w : Walked F) → P at → InInitializer P i → IfSome (array_tree add n at i w) (InDeclared P)
-unfolding InValues
-array_there P add n at None w p h = (p, tt)
-array_there P add n at (Some (single e)) w p h = tt
-array_there P add n at (Some (braced brace e es)) w p h =
-    let v = after_value add e w in
-    let all = both value_before (InValue P) (InValues P) (InValues P) (λ x xs k l. (k, l)) (value_at w e) (values_at v es) (value_there P w e h.1) (values_there P v es h.2) in
-    mapped (λ vs. tree.array_object n at (Some vs)) (InValues P) (InDeclared P) (λ vs k. (p, k)) _ all
+array_there : {F : Type 0} (P : OfPlaces) (n : ℕ) (at : Pos) (i : Option InitializerTree) (w : Walked F) → P at → InInitializer P i → IfSome (array_tree n at i w) (InDeclared P)
+array_there P n at None w p h = (p, tt)
+array_there P n at (Some (single e)) w p h = tt
+array_there P n at (Some (braced brace is)) w p h =
+    mapped (λ vs. tree.array_object n at (Some vs)) (InValues P) (InDeclared P) (λ vs k. (p, k)) (values_at w (braced_values is)) (values_there P w (braced_values is) (braced_in P is h.1 h.2))
 
-object_there : {F : Type 0} (P : OfPlaces) (add : Adding F) (b : Bool) (n : ℕ) (at : Pos) (i : Option InitializerTree) (w : Walked F) → P at → InInitializer P i → IfSome (object_tree add b n at i w) (InDeclared P)
-object_there P add true n at i w p h = array_there P add n at i w p h
-object_there P add false n at i w p h = scalar_there P n at i w p h
+object_there : {F : Type 0} (P : OfPlaces) (b : Bool) (n : ℕ) (at : Pos) (i : Option InitializerTree) (w : Walked F) → P at → InInitializer P i → IfSome (object_tree b n at i w) (InDeclared P)
+object_there P true n at i w p h = array_there P n at i w p h
+object_there P false n at i w p h = scalar_there P n at i w p h
 
 declarator_there : {F : Type 0} (P : OfPlaces) (add : Adding F) (words : Words) (d : DeclaratorTree) (w : Walked F) → InDeclarator P d → IfSome (declarator_tree_at add words d w) (InDeclared P)
 unfolding declarator_tree_at
-declarator_there P add words d w h = object_there P add (is_some d.length) (length w.locals) d.name.at d.initializer (after_head add words d w) h.0 h.2
+declarator_there P add words d w h = object_there P (is_some d.dimensions) (length w.locals) d.name.at d.initializer (after_head add words d w) h.0 h.2
 
 declarators_there : {F : Type 0} (P : OfPlaces) (add : Adding F) (words : Words) (ds : List DeclaratorTree) (w : Walked F) → InDeclarators P ds → IfSome (declarator_trees_at add words ds w) (All (InDeclared P))
 unfolding declarator_trees_at
@@ -153,11 +173,11 @@ given_in : (P : OfPlaces) (i : Option InitializerTree) → InInitializer P i →
 unfolding InExpressions
 given_in P None h = tt
 given_in P (Some (single e)) h = (h, tt)
-given_in P (Some (braced at e es)) h = (h.1, h.2)
+given_in P (Some (braced at is)) h = braced_in P is h.1 h.2
 
 static_sited : {F : Type 0} (P : OfPlaces) (add : Adding F) (words : Words) (d : DeclaratorTree) (w : Walked F) → InDeclarator P d → Sited P w → Sited P (after_static add words d w)
 unfolding after_static
-static_sited P add words d w h z = numbers_sited P add (given d.initializer) (after_static_head add words d w) (given_in P d.initializer h.2) (length_sited P add d.length w h.1 z)
+static_sited P add words d w h z = numbers_sited P add (given d.initializer) (after_static_head add words d w) (given_in P d.initializer h.2) (dimensions_sited P add d.name.at d.dimensions w h.1 z)
 
 statics_sited : {F : Type 0} (P : OfPlaces) (add : Adding F) (words : Words) (ds : List DeclaratorTree) (w : Walked F) → InDeclarators P ds → Sited P w → Sited P (after_statics add words ds w)
 unfolding after_statics

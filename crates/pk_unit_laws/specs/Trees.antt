@@ -1,13 +1,14 @@
 -- What holds of places in the trees of a text: P of those that its typed trees may have, which are places in the bodies of functions, but those of words of types.
 use Rattle.std.specs.Prelude.{List, [], ◌∷◌, Option, Some, None, IfSome}
 use Rattle.pk_places_laws.specs.Places.{OfPlaces}
-use Rattle.pk_ast.specs.Trees.{ExpressionTree, name, call, index, constant, character, parenthesized, postfix, prefix, unary, cast, binary, conditional, assignment, comma, ExpressionTrees, no_expressions, expression_then, InitializerTree, single, braced, DeclaratorTree, EnumeratorTree, EnumerationTree, DeclarationTree, ForStartTree, declaration, expression, StatementTree, block, empty, expression_statement, label, case, default, if_then, if_else, switch, while, do_while, for_loop, goto, continue, break, return, ItemTrees, no_items, declaration_then, statement_then, BlockTree, ExternalTree, function, objects, type_names}
+use Rattle.pk_ast.specs.Trees.{ExpressionTree, name, call, index, element, constant, character, parenthesized, postfix, prefix, unary, cast, binary, conditional, assignment, comma, ExpressionTrees, no_expressions, expression_then, InitializerItemTree, item_value, item_row, InitializerTree, single, braced, DimensionsTree, DeclaratorTree, EnumeratorTree, EnumerationTree, DeclarationTree, ForStartTree, declaration, expression, StatementTree, block, empty, expression_statement, label, case, default, if_then, if_else, switch, while, do_while, for_loop, goto, continue, break, return, ItemTrees, no_items, declaration_then, statement_then, BlockTree, ExternalTree, function, objects, type_names}
 
 unfoldable mutual
   pub InExpression : OfPlaces → ExpressionTree → Type 0
   InExpression P (name x) = P x.at
   InExpression P (call x es) = P x.at × InExpressions P es
   InExpression P (index x at e) = P x.at × P at × InExpression P e
+  InExpression P (element x at e column_at c) = P x.at × P at × InExpression P e × P column_at × InExpression P c
   InExpression P (constant at t n) = P at
   InExpression P (character at n) = P at
   InExpression P (parenthesized at e) = P at × InExpression P e
@@ -27,13 +28,25 @@ unfoldable mutual
 abbrev pub InOptional : OfPlaces → Option ExpressionTree → Type 0
 InOptional P e = IfSome e (InExpression P)
 
+abbrev pub InInitializerItem : OfPlaces → InitializerItemTree → Type 0
+InInitializerItem P (item_value e) = InExpression P e
+InInitializerItem P (item_row at e es) = P at × InExpression P e × InExpressions P es
+
+abbrev pub InInitializerItems : OfPlaces → List InitializerItemTree → Type 0
+InInitializerItems P [] = Unit {0}
+InInitializerItems P (i ∷ is) = InInitializerItem P i × InInitializerItems P is
+
 abbrev pub InInitializer : OfPlaces → Option InitializerTree → Type 0
 InInitializer P None = Unit {0}
 InInitializer P (Some (single e)) = InExpression P e
-InInitializer P (Some (braced at e es)) = P at × InExpression P e × InExpressions P es
+InInitializer P (Some (braced at is)) = P at × InInitializerItem P is.first × InInitializerItems P is.more
+
+abbrev pub InDimensions : OfPlaces → Option DimensionsTree → Type 0
+InDimensions P None = Unit {0}
+InDimensions P (Some d) = InExpression P d.length × InOptional P d.columns
 
 abbrev pub InDeclarator : OfPlaces → DeclaratorTree → Type 0
-InDeclarator P d = P d.name.at × InOptional P d.length × InInitializer P d.initializer
+InDeclarator P d = P d.name.at × InDimensions P d.dimensions × InInitializer P d.initializer
 
 abbrev pub InDeclarators : OfPlaces → List DeclaratorTree → Type 0
 InDeclarators P [] = Unit {0}

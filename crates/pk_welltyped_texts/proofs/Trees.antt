@@ -3,12 +3,12 @@ use Rattle.std.proofs.Common.{◌≡◌, ℕ, List, [], ◌∷◌, ◌++◌, Opt
 use Rattle.pk_lex.specs.declared.token.Kind.{Kind}
 use Rattle.pk_lex.specs.declared.token.Token.{Token}
 use Rattle.pk_ast.specs.Trees as ast
-use Rattle.pk_ast.specs.Trees.{ExpressionTree, ExpressionTrees, no_expressions, expression_then, InitializerTree, single, braced, DeclaratorTree, EnumerationTree, DeclarationTree, ForStartTree, declaration, expression, StatementTree, ItemTrees, no_items, declaration_then, statement_then, BlockTree, ExternalTree, function, objects, type_names}
+use Rattle.pk_ast.specs.Trees.{ExpressionTree, ExpressionTrees, no_expressions, expression_then, InitializerItemTree, item_value, item_row, InitializerTree, single, braced, DimensionsTree, DeclaratorTree, EnumerationTree, DeclarationTree, ForStartTree, declaration, expression, StatementTree, ItemTrees, no_items, declaration_then, statement_then, BlockTree, ExternalTree, function, objects, type_names}
 use Rattle.pk_grammar.specs.Languages.{Marked, Language, One, ◌⊙◌}
 use Rattle.pk_grammar.specs.Grammar as grammar
-use Rattle.pk_grammar.specs.Grammar.{spelled, spelled_list, spelled_more, Expression, Items, optional, array_length, initializer, declarator, more_declarators, declared, test, for_start, statement, block_items, function_end, external, externals, text}
+use Rattle.pk_grammar.specs.Grammar.{spelled, spelled_list, spelled_more, Expression, Items, optional, array_length, dimensions, initializer_item, more_initializer_items, initializer, declarator, more_declarators, declared, test, for_start, statement, block_items, function_end, external, externals, text}
 use Rattle.pk_grammar.specs.Outcomes.{unmarked}
-use Rattle.pk_type_laws.specs.Accepted.Constants.{HasConstants, HaveConstants, HasConstantsIf, InitializerHas, DeclaratorHas, DeclaratorsHave, DeclarationHas, StartHas, StatementHas, ItemsHave, BlockHas, ExternalHas, ExternalsHave}
+use Rattle.pk_type_laws.specs.Accepted.Constants.{HasConstants, HaveConstants, HasConstantsIf, InitializerItemHas, InitializerItemsHave, InitializerHas, DimensionsHave, DeclaratorHas, DeclaratorsHave, DeclarationHas, StartHas, StatementHas, ItemsHave, BlockHas, ExternalHas, ExternalsHave}
 use Rattle.pk_welltyped_texts.proofs.Tokens.{KindIs, TokensAre}
 
 abbrev pub Are : List Marked → Type 0
@@ -40,6 +40,9 @@ mutual
   expressions (ast.name x) n ts h a = tt
   expressions (ast.call x es) n ts h a = let i = h.second in lists es _ _ i.first.second (right i.first (left i (right h a)))
   expressions (ast.index x at e) n ts h a = let i = h.second in expressions e _ _ i.first.second (right i.first (left i (right h a)))
+  expressions (ast.element x at e column_at c) n ts h a =
+      let i = h.second in let j = i.first in let k = i.second in let l = k.second in let m = l.first in let r = right h a in
+      (expressions e _ _ j.second (right j (left i r)), expressions c _ _ m.second (right m (left l (right k (right i r)))))
   expressions (ast.constant at t v) n ts h a = one_is _ h h.holds.0 a
   expressions (ast.character at v) n ts h a = one_is _ h h.holds.0 a
   expressions (ast.parenthesized at e) n ts h a = expressions e _ _ h.first.second (right h.first (left h a))
@@ -72,18 +75,32 @@ lengths : (e : Option ExpressionTree) (n : ℕ) (ts : List Marked) → array_len
 lengths None n ts h a = tt
 lengths (Some e) n ts h a = expressions e _ _ h.first.second.is (right h.first (left h a))
 
-items_both : (e : ExpressionTree) (es : ExpressionTrees) → HaveConstants (expression_then e es) → HasConstants e × HaveConstants es
+all_dimensions : (d : Option DimensionsTree) (n : ℕ) (ts : List Marked) → dimensions d n ts → Are ts → DimensionsHave d
+all_dimensions None n ts h a = tt
+all_dimensions (Some d) n ts h a = (lengths (Some d.length) _ _ h.first (left h a), lengths d.columns _ _ h.second (right h a))
+
+row_both : (e : ExpressionTree) (es : ExpressionTrees) → HaveConstants (expression_then e es) → HasConstants e × HaveConstants es
 unfolding HaveConstants
-items_both e es h = h
+row_both e es h = h
+
+initializer_items : (i : InitializerItemTree) (n : ℕ) (ts : List Marked) → initializer_item i n ts → Are ts → InitializerItemHas i
+initializer_items (item_value e) n ts h a = expressions e _ _ h.is a
+initializer_items (item_row at e es) n ts h a = let i = h.second in row_both e es (lists (expression_then e es) _ _ i.first.is (left i (right h a)))
+
+all_initializer_items : (is : List InitializerItemTree) (n : ℕ) (ts : List Marked) → more_initializer_items is n ts → Are ts → InitializerItemsHave is
+all_initializer_items [] n ts h a = tt
+all_initializer_items (x ∷ xs) n ts h a =
+    let i = h.second in (initializer_items x _ _ i.first (left i (right h a)), all_initializer_items xs _ _ i.second (right i (right h a)))
 
 initializers : (i : Option InitializerTree) (n : ℕ) (ts : List Marked) → initializer i n ts → Are ts → InitializerHas i
 initializers None n ts h a = tt
 initializers (Some (single e)) n ts h a = expressions e _ _ h.second.is (right h a)
-initializers (Some (braced at e es)) n ts h a =
-    let i = h.second in let j = i.second in items_both e es (lists (expression_then e es) _ _ j.first.is (left j (right i (right h a))))
+initializers (Some (braced at is)) n ts h a =
+    let i = h.second in let j = i.second in let k = j.first in let b = left j (right i (right h a)) in
+    (initializer_items is.first _ _ k.first (left k b), all_initializer_items is.more _ _ k.second (right k b))
 
 declarators : (d : DeclaratorTree) (n : ℕ) (ts : List Marked) → declarator d n ts → Are ts → DeclaratorHas d
-declarators d n ts h a = let i = h.second in (lengths d.length _ _ i.first (left i (right h a)), initializers d.initializer _ _ i.second (right i (right h a)))
+declarators d n ts h a = let i = h.second in (all_dimensions d.dimensions _ _ i.first (left i (right h a)), initializers d.initializer _ _ i.second (right i (right h a)))
 
 all_declarators : (ds : List DeclaratorTree) (n : ℕ) (ts : List Marked) → more_declarators ds n ts → Are ts → DeclaratorsHave ds
 all_declarators [] n ts h a = tt

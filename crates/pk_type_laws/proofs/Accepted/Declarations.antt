@@ -11,11 +11,11 @@ use Rattle.pk_ctypes.specs.declared.types.IntType.{IntType}
 use Rattle.pk_ctypes.specs.declared.words.Rule.TheVariants as rule
 use Rattle.pk_ast.specs.declared.expressions.Identifier.{Identifier}
 use Rattle.pk_ast.specs.Places.{first_place_of}
-use Rattle.pk_ast.specs.Trees.{ExpressionTree, ExpressionTrees, no_expressions, expression_then, InitializerTree, single, braced, DeclaratorTree}
+use Rattle.pk_ast.specs.Trees.{ExpressionTree, ExpressionTrees, no_expressions, expression_then, InitializerItemTree, item_value, item_row, InitializerTree, single, braced, DimensionsTree, DeclaratorTree}
 use Rattle.pk_typed.specs.declared.values.Variable.{Variable}
 use Rattle.pk_typed.specs.declared.values.Variable.TheVariants.{File, Local}
 use Rattle.pk_typed.specs.Trees as tree
-use Rattle.pk_typed.specs.Trees.{LocalTree, FileObjectTree, ValueTree, ValueTrees, value_before, DeclaredTree, UnitTree}
+use Rattle.pk_typed.specs.Trees.{LocalTree, FileObjectTree, ValueTree, ValueTrees, DeclaredTree, UnitTree}
 use Rattle.pk_type_scope.specs.declared.declarations.Callee.{Callee}
 use Rattle.pk_type_scope.specs.declared.declarations.Callee.TheVariants.{Ordinary, Any, Assume, Assert, Abort}
 use Rattle.pk_type_scope.specs.declared.declarations.Declaration.{Declaration}
@@ -35,12 +35,13 @@ use Rattle.pk_type_constant.specs.declared.constants.Constant.TheVariants.{Numbe
 use Rattle.pk_type_constant.specs.Forms.{is_constant_form}
 use Rattle.pk_type_declaration.specs.declared.words.Words.{Words}
 use Rattle.pk_type_declaration.specs.Constants.{given_by, evaluated, is_refused, is_refused_length, is_outside, is_length, number_of, magnitude, length_in, after_constant, after_length}
-use Rattle.pk_type_declaration.specs.Declarations.{integer_in, type_or_int, object_at, at_name, redeclared, void_object, special_object, braces, surplus, surplus_item, item_at, after_initializer, length_at, after_optional_length, length_or_1, local_of, after_object, after_head, after_declarator, after_declarators, scalar_tree, array_tree, declarator_tree_at, declarator_trees_at}
+use Rattle.pk_type_declaration.specs.Declarations.{integer_in, type_or_int, object_at, at_name, redeclared, void_object, special_object, braces, misfit, misfit_at, after_initializer, length_at, after_columns, after_dimensions, length_or_1, local_of, after_object, after_head, after_declarator, after_declarators, scalar_tree, array_tree, declarator_tree_at, declarator_trees_at}
+use Rattle.pk_type_declaration.specs.Initializers.{followed_by, item_values, items_values, braced_values, first_misfit}
 use Rattle.pk_type_declaration.specs.Walks.{StaticsTree, here, failing, after_value, after_values, value_at, values_at}
-use Rattle.pk_welltyped.specs.Listed.{numbered, calls_in, calls_in_values, calls_in_declared, calls_in_all_declared, objects_in_declared, objects_in_all_declared}
+use Rattle.pk_welltyped.specs.Listed.{numbered, calls_in_declared, calls_in_all_declared, objects_in_declared, objects_in_all_declared}
 use Rattle.pk_welltyped.specs.WellTyped as good
 use Rattle.pk_welltyped.specs.WellTyped.{Around, IsObject, AreValues, kind_among, IsDeclared, AreDeclared, IsValueIf, AreValuesIf}
-use Rattle.pk_type_laws.specs.Accepted.Constants.{HasConstantsIf, InitializerHas, DeclaratorsHave}
+use Rattle.pk_type_laws.specs.Accepted.Constants.{HaveConstants, InitializerItemHas, InitializerItemsHave, InitializerHas, DimensionsHave, DeclaratorsHave}
 use Rattle.pk_type_laws.specs.Accepted.Names.{ObjectIs, EnumeratorIs, CalleeIs, DeclarationIs, NamesAre}
 use Rattle.pk_type_laws.proofs.Accepted.Forms.{no_calls, Gives, Numeric, numeric}
 use Rattle.pk_type_laws.proofs.Accepted.Walks.{W, around, none_found, LaterStatics, statics_same, Later, later_same, later, later_failing, later_value, later_values, Steps, steps_none, steps, steps_as, ValuePart, ValuesPart, value_part, values_part}
@@ -250,10 +251,26 @@ length_steps e w h =
 
 -- ---- what an object begins with
 
-pub room : (es : ExpressionTrees) (n : ℕ) → surplus_item (item_at es n) ≡ [] → count es ≤ n
-room no_expressions n h = omega arith
-room (expression_then e es) zero h = absurd (cc)
-room (expression_then e es) (suc n) h = let l = room es n h in omega (l, arith)
+pub room : (is : List InitializerItemTree) (n : ℕ) → misfit_at (first_misfit n is) ≡ [] → count (items_values is) ≤ n
+room [] n h = omega arith
+room (item_row at e es ∷ is) n h = absurd (cc)
+room (item_value e ∷ is) zero h = absurd (cc)
+room (item_value e ∷ is) (suc n) h = let l = room is n h in omega (l, arith)
+
+followed_have : (es fs : ExpressionTrees) → HaveConstants es → HaveConstants fs → HaveConstants (followed_by es fs)
+unfolding HaveConstants
+followed_have no_expressions fs h k = k
+followed_have (expression_then e es) fs h k = (h.0, followed_have es fs h.1 k)
+
+item_has : (i : InitializerItemTree) → InitializerItemHas i → HaveConstants (item_values i)
+unfolding HaveConstants
+item_has (item_value e) h = (h, tt)
+item_has (item_row at e es) h = h
+
+items_have : (is : List InitializerItemTree) → InitializerItemsHave is → HaveConstants (items_values is)
+unfolding HaveConstants
+items_have [] h = tt
+items_have (i ∷ is) h = followed_have (item_values i) (items_values is) (item_has i h.0) (items_have is h.1)
 
 abbrev InitialPart : UnitTree → List LocalTree → W → W → (i : ℕ) → Option DeclaredTree → Type 0
 InitialPart u ls w v i None = Unit {0}
@@ -270,7 +287,7 @@ scalar_part u ls w i at (Some (single e)) n k h = valued (value_at w e) (value_p
     valued : (o : Option ValueTree) → ValuePart (around u ls w) w (after_value noted e w) o → InitialPart u ls w (after_value noted e w) i (option_map (λ v. tree.scalar_object i at (Some v)) o)
     valued None p = tt
     valued (Some v) p = (refl, p.0, p.1)
-scalar_part u ls w i at (Some (braced o e es)) n k h = tt
+scalar_part u ls w i at (Some (braced o is)) n k h = tt
 
 -- so many items
 abbrev ArrayPart : UnitTree → List LocalTree → W → W → (i n : ℕ) → Option DeclaredTree → Type 0
@@ -280,22 +297,17 @@ ArrayPart u ls w v i n (Some (tree.array_object k at es)) = (k ≡ i) × (good.c
 ArrayPart u ls w v i n (Some (tree.static_object k at)) = ⊥
 ArrayPart u ls w v i n (Some (tree.hiding_constant x at)) = ⊥
 
-items_part : (u : UnitTree) (ls : List LocalTree) (w v x : W) (i n m : ℕ) (at : Pos) (e : Option ValueTree) (es : Option ValueTrees) → 1 + m ≤ n → length v.locals ≡ length w.locals
-    → ValuePart (around u ls w) w v e → ValuesPart (around u ls v) v x m es → ArrayPart u ls w x i n (option_map (λ vs. tree.array_object i at (Some vs)) (of_both value_before e es))
-unfolding AreValues calls_in_values
-items_part u ls w v x i n m at None es l same g h = tt
-items_part u ls w v x i n m at (Some e) None l same g h = tt
-items_part u ls w v x i n m at (Some e) (Some es) l same g h =
-    (refl, omega (l, h.2, arith), (g.0, subst (λ (k : ℕ). AreValues (record { unit = u; locals = ls; objects = k }) es) same h.0), steps w v x (calls_in e) (calls_in_values es) 0 0 g.1 h.1)
+items_part : (u : UnitTree) (ls : List LocalTree) (w v : W) (i n m : ℕ) (at : Pos) (es : Option ValueTrees) → m ≤ n → ValuesPart (around u ls w) w v m es → ArrayPart u ls w v i n (option_map (λ vs. tree.array_object i at (Some vs)) es)
+items_part u ls w v i n m at None l h = tt
+items_part u ls w v i n m at (Some es) l h = (refl, omega (l, h.2, arith), h.0, h.1)
 
-array_part : (u : UnitTree) (ls : List LocalTree) (w : W) (i n : ℕ) (at : Pos) (x : Option InitializerTree) → NamesAre (around u ls w) (here w) → InitializerHas x → surplus (Some n) x ≡ []
-    → (after_initializer noted x w).found ≡ None → ArrayPart u ls w (after_initializer noted x w) i n (array_tree noted i at x w)
+array_part : (u : UnitTree) (ls : List LocalTree) (w : W) (i n : ℕ) (at : Pos) (x : Option InitializerTree) → NamesAre (around u ls w) (here w) → InitializerHas x → misfit (Some n) x ≡ []
+    → (after_initializer noted x w).found ≡ None → ArrayPart u ls w (after_initializer noted x w) i n (array_tree i at x w)
 array_part u ls w i n at None g k s h = (refl, omega arith, tt, steps_none w w refl refl)
 array_part u ls w i n at (Some (single e)) g k s h = tt
-array_part u ls w i n at (Some (braced o e es)) g k s h =
-    let v = after_value noted e w in
-    items_part u ls w v (after_values noted es v) i n (count es) at (value_at w e) (values_at v es) (room (expression_then e es) n s) refl
-    (value_part (around u ls w) w e g k.0 ((later_values es v).found h)) (values_part (around u ls v) v es g k.1 h)
+array_part u ls w i n at (Some (braced o is)) g k s h =
+    let all = is.first ∷ is.more in
+    items_part u ls w (after_values noted (items_values all) w) i n (count (items_values all)) at (values_at w (items_values all)) (room all n s) (values_part (around u ls w) w (items_values all) g (items_have all k) h)
 
 -- ---- a declarator
 
@@ -345,24 +357,32 @@ object_declared u ls words b n x w g unknown begins h =
 
 -- ---- later places, whatever fails
 
-pub later_optional_length : (e : Option ExpressionTree) (w : W) → Later w (after_optional_length noted e w)
-later_optional_length None w = later_same w
-later_optional_length (Some e) w = later_length e w
+later_columns : (at : Pos) (e : Option ExpressionTree) (w : W) → Later w (after_columns noted at e w)
+later_columns at None w = later_same w
+later_columns at (Some e) w = later w (after_length noted e w) _ (later_length e w) (later_failing (fails_if true rule.Array at) (after_length noted e w))
+
+pub later_dimensions : (at : Pos) (d : Option DimensionsTree) (w : W) → Later w (after_dimensions noted at d w)
+later_dimensions at None w = later_same w
+later_dimensions at (Some d) w = later w (after_length noted d.length w) _ (later_length d.length w) (later_columns at d.columns (after_length noted d.length w))
+
+-- an array of rows and columns isn't accepted
+pub no_columns : (at : Pos) (e : ExpressionTree) (w : W) → (after_columns noted at (Some e) w).found ≡ None → ⊥
+no_columns at e w h = false≢true (sym (holds_not true rule.Array at (none_found (after_length noted e w).found (fails_if true rule.Array at) h).1))
 
 pub later_object : (words : Words) (b : Bool) (n : Option ℕ) (x : Identifier) (w : W) → Later w (after_object noted words b n x w)
 later_object words b n x w = record { found = λ h. (none_found w.found (at_name w.scoping words.typing x) h).0; more = local_of words.typing w.scoping b n x ∷ []; locals = refl; statics = statics_same w.statics }
 
 later_head : (words : Words) (d : DeclaratorTree) (w : W) → Later w (after_head noted words d w)
 later_head words d w =
-    let n = length_at w d.length in
-    let w1 = after_optional_length noted d.length w in
-    let v = after_object noted words (is_some d.length) n d.name w1 in
-    later w w1 _ (later_optional_length d.length w) (later w1 v _ (later_object words (is_some d.length) n d.name w1) (later_failing (braces (is_some d.length) d.initializer d.name.at ++ surplus n d.initializer) v))
+    let n = length_at w d.dimensions in
+    let w1 = after_dimensions noted d.name.at d.dimensions w in
+    let v = after_object noted words (is_some d.dimensions) n d.name w1 in
+    later w w1 _ (later_dimensions d.name.at d.dimensions w) (later w1 v _ (later_object words (is_some d.dimensions) n d.name w1) (later_failing (braces (is_some d.dimensions) d.initializer d.name.at ++ misfit n d.initializer) v))
 
 later_initializer : (x : Option InitializerTree) (w : W) → Later w (after_initializer noted x w)
 later_initializer None w = later_same w
 later_initializer (Some (single e)) w = later_value e w
-later_initializer (Some (braced at e es)) w = later w (after_value noted e w) _ (later_value e w) (later_values es (after_value noted e w))
+later_initializer (Some (braced at is)) w = later_values (braced_values is) w
 
 pub later_declarator : (words : Words) (d : DeclaratorTree) (w : W) → Later w (after_declarator noted words d w)
 unfolding after_declarator
@@ -400,18 +420,54 @@ array_declared u ls w v x t n (Some (tree.array_object i at es)) k few some s p 
 initial_names : (u : UnitTree) (ls : List LocalTree) (x : Option InitializerTree) (w : W) → NamesAre (around u ls w) (here w) → NamesAre (around u ls (after_initializer noted x w)) (here (after_initializer noted x w))
 initial_names u ls None w h = h
 initial_names u ls (Some (single e)) w h = h
-initial_names u ls (Some (braced at e es)) w h = h
+initial_names u ls (Some (braced at is)) w h = h
 
 record Declaring (u : UnitTree) (ls : List LocalTree) (w v : W) (o : Option DeclaredTree) : Type 0 where
   names : NamesAre (around u ls v) (here v)
   part : DeclaredPart u ls w v o
 
-declarator_of : (u : UnitTree) (ls : List LocalTree) (words : Words) (x : Identifier) (e : Option ExpressionTree) (i : Option InitializerTree) (w : W) → NamesAre (around u ls w) (here w) → is_unknown words.typing ≡ false
-    → HasConstantsIf e → InitializerHas i → (let d : DeclaratorTree = record { name = x; length = e; initializer = i } in let v = after_declarator noted words d w in Begins u ls v → v.found ≡ None → Declaring u ls w v (declarator_tree_at noted words d w))
+-- of an array
+array_of : (u : UnitTree) (ls : List LocalTree) (words : Words) (x : Identifier) (e : ExpressionTree) (c : Option ExpressionTree) (i : Option InitializerTree) (w : W) → NamesAre (around u ls w) (here w) → is_unknown words.typing ≡ false
+    → InitializerHas i
+    → (let d : DeclaratorTree = record { name = x; dimensions = Some (record { length = e; columns = c }); initializer = i } in let v = after_declarator noted words d w in Begins u ls v → v.found ≡ None → Declaring u ls w v (declarator_tree_at noted words d w))
+unfolding after_declarator declarator_tree_at
+array_of u ls words x e None i w n unknown ki begins h =
+    let d : DeclaratorTree = record { name = x; dimensions = Some (record { length = e; columns = None }); initializer = i } in
+    let w1 = after_length noted e w in
+    let m = length_in (evaluated w e) in
+    let fs = braces true i x.at ++ misfit m i in
+    let v0 = after_object noted words true m x w1 in
+    let v1 = failing noted fs v0 in
+    let f1 : v1.found ≡ None = (later_initializer i v1).found h in
+    let f0 = none_found v0.found fs f1 in
+    let fw : w1.found ≡ None = (later_object words true m x w1).found f0.0 in
+    let b1 = begins_before u ls v1 _ (later_initializer i v1) begins in
+    let o = object_declared u ls words true m x w1 n unknown (record { rest = b1.rest; is = b1.is; statics = b1.statics }) f0.0 in
+    let k = length_known u ls w e n fw in
+    let s1 : Steps w w1 [] 0 = length_steps e w fw in
+    let s : Steps w1 v1 [] 1 = record { sites = o.calls.sites; calls = o.calls.calls; listed = o.calls.listed; objects = o.calls.objects } in
+    let fits : misfit (Some k.0) i ≡ [] = rw k.1 at (none_after (braces true i x.at) (misfit m i) f0.1) in
+    let kind : kind_among ls (length w.locals) ≡ Some (array_kind (type_or_int words.typing) k.0) = o.kind ∙ ap (λ (q : Option ℕ). Some (record { int_type = type_or_int words.typing; length = length_or_1 true q })) k.1 in
+    record {
+      names = initial_names u ls i v1 o.names;
+      part = array_declared u ls w v1 (after_initializer noted i v1) (type_or_int words.typing) k.0 (array_tree (length w.locals) x.at i v1) kind k.2 k.3 (steps w w1 v1 [] [] 0 1 s1 s)
+          (array_part u ls v1 (length w.locals) k.0 x.at i o.names ki fits h);
+    }
+array_of u ls words x e (Some c) i w n unknown ki begins h =
+    let w1 = after_length noted e w in
+    let w2 = after_columns noted x.at (Some c) w1 in
+    let m = length_in (evaluated w e) in
+    let fs = braces true i x.at ++ misfit m i in
+    let v0 = after_object noted words true m x w2 in
+    let f0 = none_found v0.found fs ((later_initializer i (failing noted fs v0)).found h) in
+    absurd (no_columns x.at c w1 ((later_object words true m x w2).found f0.0))
+
+declarator_of : (u : UnitTree) (ls : List LocalTree) (words : Words) (x : Identifier) (e : Option DimensionsTree) (i : Option InitializerTree) (w : W) → NamesAre (around u ls w) (here w) → is_unknown words.typing ≡ false
+    → DimensionsHave e → InitializerHas i → (let d : DeclaratorTree = record { name = x; dimensions = e; initializer = i } in let v = after_declarator noted words d w in Begins u ls v → v.found ≡ None → Declaring u ls w v (declarator_tree_at noted words d w))
 unfolding after_declarator declarator_tree_at
 declarator_of u ls words x None i w n unknown ke ki begins h =
-    let d : DeclaratorTree = record { name = x; length = None; initializer = i } in
-    let fs = braces false i x.at ++ surplus None i in
+    let d : DeclaratorTree = record { name = x; dimensions = None; initializer = i } in
+    let fs = braces false i x.at ++ misfit None i in
     let v0 = after_object noted words false None x w in
     let v1 = failing noted fs v0 in
     let f1 : v1.found ≡ None = (later_initializer i v1).found h in
@@ -423,28 +479,7 @@ declarator_of u ls words x None i w n unknown ke ki begins h =
       names = initial_names u ls i v1 o.names;
       part = scalar_declared u ls w v1 (after_initializer noted i v1) (type_or_int words.typing) (scalar_tree (length w.locals) x.at i v1) o.kind s (scalar_part u ls v1 (length w.locals) x.at i o.names ki h);
     }
-declarator_of u ls words x (Some e) i w n unknown ke ki begins h =
-    let d : DeclaratorTree = record { name = x; length = Some e; initializer = i } in
-    let w1 = after_length noted e w in
-    let m = length_in (evaluated w e) in
-    let fs = braces true i x.at ++ surplus m i in
-    let v0 = after_object noted words true m x w1 in
-    let v1 = failing noted fs v0 in
-    let f1 : v1.found ≡ None = (later_initializer i v1).found h in
-    let f0 = none_found v0.found fs f1 in
-    let fw : w1.found ≡ None = (later_object words true m x w1).found f0.0 in
-    let b1 = begins_before u ls v1 _ (later_initializer i v1) begins in
-    let o = object_declared u ls words true m x w1 n unknown (record { rest = b1.rest; is = b1.is; statics = b1.statics }) f0.0 in
-    let k = length_known u ls w e n fw in
-    let s1 : Steps w w1 [] 0 = length_steps e w fw in
-    let s : Steps w1 v1 [] 1 = record { sites = o.calls.sites; calls = o.calls.calls; listed = o.calls.listed; objects = o.calls.objects } in
-    let fits : surplus (Some k.0) i ≡ [] = rw k.1 at (none_after (braces true i x.at) (surplus m i) f0.1) in
-    let kind : kind_among ls (length w.locals) ≡ Some (array_kind (type_or_int words.typing) k.0) = o.kind ∙ ap (λ (q : Option ℕ). Some (record { int_type = type_or_int words.typing; length = length_or_1 true q })) k.1 in
-    record {
-      names = initial_names u ls i v1 o.names;
-      part = array_declared u ls w v1 (after_initializer noted i v1) (type_or_int words.typing) k.0 (array_tree noted (length w.locals) x.at i v1) kind k.2 k.3 (steps w w1 v1 [] [] 0 1 s1 s)
-          (array_part u ls v1 (length w.locals) k.0 x.at i o.names ki fits h);
-    }
+declarator_of u ls words x (Some e) i w n unknown ke ki begins h = array_of u ls words x e.length e.columns i w n unknown ki begins h
 
 abbrev pub AllDeclaredPart : UnitTree → List LocalTree → W → W → Option (List DeclaredTree) → Type 0
 AllDeclaredPart u ls w v None = Unit {0}
@@ -469,7 +504,7 @@ declarators u ls words unknown [] k w n begins h = record { names = n; part = (t
 declarators u ls words unknown (d ∷ ds) k w n begins h =
     let v = after_declarator noted words d w in
     let l = later_declarators words ds v in
-    let one = declarator_of u ls words d.name d.length d.initializer w n unknown k.0.0 k.0.1 (begins_before u ls v _ l begins) (l.found h) in
+    let one = declarator_of u ls words d.name d.dimensions d.initializer w n unknown k.0.0 k.0.1 (begins_before u ls v _ l begins) (l.found h) in
     let more = declarators u ls words unknown ds k.1 v one.names begins h in
     record { names = more.names; part = one_more u ls w v _ (declarator_tree_at noted words d w) (declarator_trees_at noted words ds v) one.part more.part }
 

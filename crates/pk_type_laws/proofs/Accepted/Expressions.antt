@@ -360,6 +360,7 @@ mutual
       let q : failures d e ++ void d e ++ own d (ast.index x at e) ≡ [] = p in
       let f : failures d e ≡ [] = none_before (failures d e) (void d e) (none_before (failures d e ++ void d e) (own d (ast.index x at e)) q) in
       element_good a (numbered n (calls d e)) at (value_of (typed d n e)) (d x) (h x) (good_value a (numbered n (calls d e)) (typed d n e) (expressions a d h n e k f))
+  expressions a d h n (ast.element x at e column_at c) k p = tt
   expressions a d h n (ast.constant at t v) k p = number_good a t (pos v) k
   expressions a d h n (ast.character at v) k p = number_good a Int v k
   expressions a d h n (ast.parenthesized at e) k p = expressions a d h n e k p

@@ -6,7 +6,7 @@ use Rattle.pk_ctypes.specs.declared.types.IntType.{IntType}
 use Rattle.pk_ast.specs.declared.expressions.Identifier.{Identifier}
 use Rattle.pk_ast.specs.declared.units.Storage.{Storage}
 use Rattle.pk_ast.specs.declared.declarations.Specifier.{Specifier}
-use Rattle.pk_ast.specs.Trees.{OneOrMore, ExpressionTree, InitializerTree, DeclaratorTree, EnumerationTree, DeclarationTree}
+use Rattle.pk_ast.specs.Trees.{OneOrMore, ExpressionTree, InitializerTree, DimensionsTree, DeclaratorTree, EnumerationTree, DeclarationTree}
 use Rattle.pk_typed.specs.declared.values.Variable.TheVariants.{File, Local}
 use Rattle.pk_typed.specs.Trees.{LocalTree, FileObjectTree, UnitTree}
 use Rattle.pk_type_scope.specs.declared.declarations.Callee.{Callee}
@@ -21,18 +21,19 @@ use Rattle.pk_type_scope.specs.Scopes.{Scoping, names_in, declaring}
 use Rattle.pk_type_expression.specs.Rules.{count}
 use Rattle.pk_type_expression.proofs.TreeLemmas.{none_before, none_after, holds_not}
 use Rattle.pk_type_declaration.specs.declared.words.Words.{Words}
-use Rattle.pk_type_declaration.specs.Constants.{evaluated, length_in}
-use Rattle.pk_type_declaration.specs.Declarations.{type_or_int, text_of, redeclared, void_object, special_object, braces, surplus, length_at, after_optional_length, length_or_1}
+use Rattle.pk_type_declaration.specs.Constants.{evaluated, length_in, after_length}
+use Rattle.pk_type_declaration.specs.Declarations.{type_or_int, text_of, redeclared, void_object, special_object, braces, misfit, length_at, after_columns, after_dimensions, length_or_1}
 use Rattle.pk_type_declaration.specs.Enumerations.{words_at, after_words}
 use Rattle.pk_type_declaration.specs.Walks.{here, failing, after_name}
-use Rattle.pk_type_declaration.specs.Starts.{after_numbers, numbers_at, given, start_of}
+use Rattle.pk_type_declaration.specs.Initializers.{given}
+use Rattle.pk_type_declaration.specs.Starts.{after_numbers, numbers_at, start_of}
 use Rattle.pk_type.specs.Files.{EntryTree, Filed, extern_object, file_object, after_object, after_objects, on, after_declaration}
 use Rattle.pk_type.specs.Files as files
 use Rattle.pk_type.specs.Units.{function_of}
 use Rattle.pk_welltyped.specs.WellTyped.{Around, IsObject, kind_in_file, IsStart, IsBodyIf}
 use Rattle.pk_type_laws.specs.Accepted.Names.{ObjectIs, CalleeIs, DeclarationIs, NamesAre}
 use Rattle.pk_type_laws.proofs.Accepted.Walks.{W, none_found, LaterStatics, statics_same, statics_later, Later, later, later_failing}
-use Rattle.pk_type_laws.proofs.Accepted.Declarations.{has_types, all_declaring, names_declaring, StaticsStand, statics_before, later_optional_length, length_known}
+use Rattle.pk_type_laws.proofs.Accepted.Declarations.{has_types, all_declaring, names_declaring, StaticsStand, statics_before, later_dimensions, no_columns, length_known}
 use Rattle.pk_type_laws.proofs.Accepted.Enumerations.{later_words, words_locals, Holds, words_names, words_known}
 use Rattle.pk_type_laws.proofs.Accepted.Starts.{later_numbers, same_scope, same_locals, numbers_in_type, numbers_many, given_fit, RoomIn, start_is, start_length, object_is, its_kind}
 use Rattle.pk_type_laws.proofs.Accepted.Functions.{Integers}
@@ -194,12 +195,12 @@ object_made u words b n x i f w rows fs name sc lc void unknown h r s =
 
 later_head : (storage : Option Storage) (words : Words) (d : DeclaratorTree) (f : F) → Later f.walked (files.after_head noted storage words d f)
 later_head storage words d f =
-    let w = after_optional_length noted d.length f.walked in
+    let w = after_dimensions noted d.name.at d.dimensions f.walked in
     let rows = redeclared w.scoping d.name ++ extern_object storage d.name ++ void_object words.typing d.name.at ++ special_object w.scoping d.name in
-    let fs = braces (is_some d.length) d.initializer d.name.at ++ surplus (length_at f.walked d.length) d.initializer in
-    let v : W = after_name d.name (file_object words (is_some d.length) f) (failing noted rows w) in
+    let fs = braces (is_some d.dimensions) d.initializer d.name.at ++ misfit (length_at f.walked d.dimensions) d.initializer in
+    let v : W = after_name d.name (file_object words (is_some d.dimensions) f) (failing noted rows w) in
     let named : Later (failing noted rows w) v = record { found = λ h. h; more = []; locals = sym (append-nil w.locals); statics = statics_same w.statics } in
-    later f.walked w _ (later_optional_length d.length f.walked) (later w (failing noted rows w) _ (later_failing rows w) (later (failing noted rows w) v _ named (later_failing fs v)))
+    later f.walked w _ (later_dimensions d.name.at d.dimensions f.walked) (later w (failing noted rows w) _ (later_failing rows w) (later (failing noted rows w) v _ named (later_failing fs v)))
 
 later_object : (storage : Option Storage) (words : Words) (d : DeclaratorTree) (f : F) → LaterFile f (after_object noted storage words d f)
 unfolding after_object
@@ -208,7 +209,7 @@ later_object storage words d f =
     let t = type_or_int words.typing in
     record {
       found = λ h. (later_head storage words d f).found ((later_numbers (given d.initializer) w).found h);
-      more = record { name = text_of f.walked.scoping d.name; int_type = t; start = start_of (length_or_1 (is_some d.length) (length_at f.walked d.length)) (numbers_at noted t (given d.initializer) w) } ∷ [];
+      more = record { name = text_of f.walked.scoping d.name; int_type = t; start = start_of (length_or_1 (is_some d.dimensions) (length_at f.walked d.dimensions)) (numbers_at noted t (given d.initializer) w) } ∷ [];
       objects = refl;
       entries = kept_same f.functions;
       statics = statics_later f.walked.statics w.statics (after_numbers noted (given d.initializer) w).statics (later_head storage words d f).statics (later_numbers (given d.initializer) w).statics;
@@ -230,30 +231,43 @@ later_declaration storage d f =
 void_row : (a b c d : List Failure) → a ++ b ++ c ++ d ≡ [] → c ≡ []
 void_row a b c d h = none_after (a ++ b) c (none_before (a ++ b ++ c) d h)
 
-one_object : (u : UnitTree) (storage : Option Storage) (words : Words) (x : Identifier) (e : Option ExpressionTree) (i : Option InitializerTree) (f : F) → is_unknown words.typing ≡ false → FileIs u f
-    → (let d : DeclaratorTree = record { name = x; length = e; initializer = i } in Stands u (after_object noted storage words d f) → (after_object noted storage words d f).walked.found ≡ None → FileIs u (after_object noted storage words d f))
+one_array : (u : UnitTree) (storage : Option Storage) (words : Words) (x : Identifier) (e : ExpressionTree) (c : Option ExpressionTree) (i : Option InitializerTree) (f : F) → is_unknown words.typing ≡ false → FileIs u f
+    → (let d : DeclaratorTree = record { name = x; dimensions = Some (record { length = e; columns = c }); initializer = i } in Stands u (after_object noted storage words d f) → (after_object noted storage words d f).walked.found ≡ None → FileIs u (after_object noted storage words d f))
 unfolding after_object
-one_object u storage words x None i f unknown h s k =
-    let w = f.walked in
-    let rows = redeclared w.scoping x ++ extern_object storage x ++ void_object words.typing x.at ++ special_object w.scoping x in
-    let fs = braces false i x.at ++ surplus None i in
-    let v = failing noted fs (after_name x (file_object words false f) (failing noted rows w)) in
-    let k1 = none_found (noted w.found rows) fs ((later_numbers (given i) v).found k) in
-    let k2 = none_found w.found rows k1.0 in
-    let void : is_void words.typing ≡ false = holds_not _ _ _ (void_row (redeclared w.scoping x) (extern_object storage x) (void_object words.typing x.at) (special_object w.scoping x) k2.1) in
-    object_made u words false None x i f w rows fs (text_of w.scoping x) refl refl void unknown h tt s
-one_object u storage words x (Some e) i f unknown h s k =
-    let w = after_optional_length noted (Some e) f.walked in
+one_array u storage words x e None i f unknown h s k =
+    let w = after_length noted e f.walked in
     let n = length_in (evaluated f.walked e) in
     let rows = redeclared w.scoping x ++ extern_object storage x ++ void_object words.typing x.at ++ special_object w.scoping x in
-    let fs = braces true i x.at ++ surplus n i in
+    let fs = braces true i x.at ++ misfit n i in
     let v = failing noted fs (after_name x (file_object words true f) (failing noted rows w)) in
     let k1 = none_found (noted w.found rows) fs ((later_numbers (given i) v).found k) in
     let k2 = none_found w.found rows k1.0 in
     let void : is_void words.typing ≡ false = holds_not _ _ _ (void_row (redeclared w.scoping x) (extern_object storage x) (void_object words.typing x.at) (special_object w.scoping x) k2.1) in
     let m = length_known u [] f.walked e (names_from_file u [] (length f.walked.locals) (here f.walked) h.names) k2.0 in
-    let fits : count (given i) ≤ m.0 = given_fit i m.0 x.at (none_before (braces true i x.at) (surplus n i) k1.1) (rw m.1 at (none_after (braces true i x.at) (surplus n i) k1.1)) in
+    let fits : count (given i) ≤ m.0 = given_fit i m.0 x.at (none_before (braces true i x.at) (misfit n i) k1.1) (rw m.1 at (none_after (braces true i x.at) (misfit n i) k1.1)) in
     object_made u words true n x i f w rows fs (text_of f.walked.scoping x) refl refl void unknown h (subst (λ (o : Option ℕ). RoomIn true o (count (given i))) (sym m.1) (fits, m.3)) s
+one_array u storage words x e (Some c) i f unknown h s k =
+    let z = after_length noted e f.walked in
+    let w = after_columns noted x.at (Some c) z in
+    let rows = redeclared w.scoping x ++ extern_object storage x ++ void_object words.typing x.at ++ special_object w.scoping x in
+    let fs = braces true i x.at ++ misfit (length_in (evaluated f.walked e)) i in
+    let v = failing noted fs (after_name x (file_object words true f) (failing noted rows w)) in
+    let k1 = none_found (noted w.found rows) fs ((later_numbers (given i) v).found k) in
+    absurd (no_columns x.at c z (none_found w.found rows k1.0).0)
+
+one_object : (u : UnitTree) (storage : Option Storage) (words : Words) (x : Identifier) (e : Option DimensionsTree) (i : Option InitializerTree) (f : F) → is_unknown words.typing ≡ false → FileIs u f
+    → (let d : DeclaratorTree = record { name = x; dimensions = e; initializer = i } in Stands u (after_object noted storage words d f) → (after_object noted storage words d f).walked.found ≡ None → FileIs u (after_object noted storage words d f))
+unfolding after_object
+one_object u storage words x None i f unknown h s k =
+    let w = f.walked in
+    let rows = redeclared w.scoping x ++ extern_object storage x ++ void_object words.typing x.at ++ special_object w.scoping x in
+    let fs = braces false i x.at ++ misfit None i in
+    let v = failing noted fs (after_name x (file_object words false f) (failing noted rows w)) in
+    let k1 = none_found (noted w.found rows) fs ((later_numbers (given i) v).found k) in
+    let k2 = none_found w.found rows k1.0 in
+    let void : is_void words.typing ≡ false = holds_not _ _ _ (void_row (redeclared w.scoping x) (extern_object storage x) (void_object words.typing x.at) (special_object w.scoping x) k2.1) in
+    object_made u words false None x i f w rows fs (text_of w.scoping x) refl refl void unknown h tt s
+one_object u storage words x (Some e) i f unknown h s k = one_array u storage words x e.length e.columns i f unknown h s k
 
 all_objects : (u : UnitTree) (storage : Option Storage) (words : Words) (ds : List DeclaratorTree) (f : F) → is_unknown words.typing ≡ false → FileIs u f → Stands u (after_objects noted storage words ds f)
     → (after_objects noted storage words ds f).walked.found ≡ None
@@ -263,7 +277,7 @@ all_objects u storage words [] f unknown h s k = h
 all_objects u storage words (d ∷ ds) f unknown h s k =
     let g = after_object noted storage words d f in
     let l = later_objects storage words ds g in
-    all_objects u storage words ds g unknown (one_object u storage words d.name d.length d.initializer f unknown h (stands_before u g _ l s) (l.found k)) s k
+    all_objects u storage words ds g unknown (one_object u storage words d.name d.dimensions d.initializer f unknown h (stands_before u g _ l s) (l.found k)) s k
 
 -- the words of a declaration of the file
 pub words_in_file : (u : UnitTree) (words : OneOrMore Specifier) (e : Option EnumerationTree) (f : F) → FileIs u f → (after_words noted words e f.walked).found ≡ None → FileIs u (on (after_words noted words e) f)

@@ -44,6 +44,7 @@ unfolding is_constant_form calls
 no_calls d (ast.name x) h = refl
 no_calls d (ast.call x es) h = absurd (false≢true h)
 no_calls d (ast.index x at e) h = absurd (false≢true h)
+no_calls d (ast.element x at e column_at c) h = absurd (false≢true h)
 no_calls d (ast.constant at t n) h = refl
 no_calls d (ast.character at n) h = refl
 no_calls d (ast.parenthesized at e) h = no_calls d e h
@@ -167,6 +168,7 @@ unfolding is_constant_form typed
 numeric d n (ast.name x) h = name_numeric (d x) h
 numeric d n (ast.call x es) h = absurd (false≢true h)
 numeric d n (ast.index x at e) h = absurd (false≢true h)
+numeric d n (ast.element x at e column_at c) h = absurd (false≢true h)
 numeric d n (ast.constant at t v) h = number_numeric t (pos v)
 numeric d n (ast.character at v) h = number_numeric Int v
 numeric d n (ast.parenthesized at e) h = numeric d n e h

@@ -17,8 +17,9 @@ use Rattle.pk_type_scope.specs.Declarations.{is_void, is_unknown}
 use Rattle.pk_type_scope.specs.Failures.{noted}
 use Rattle.pk_type_expression.specs.Rules.{count}
 use Rattle.pk_type_declaration.specs.Constants.{evaluated, number_in, after_constant}
-use Rattle.pk_type_declaration.specs.Declarations.{integer_in, type_or_int, braces, surplus, length_or_1}
-use Rattle.pk_type_declaration.specs.Starts.{number_or_0, number_at, after_numbers, numbers_at, given, first_or_0, start_of}
+use Rattle.pk_type_declaration.specs.Declarations.{integer_in, type_or_int, braces, misfit, length_or_1}
+use Rattle.pk_type_declaration.specs.Initializers.{given}
+use Rattle.pk_type_declaration.specs.Starts.{number_or_0, number_at, after_numbers, numbers_at, first_or_0, start_of}
 use Rattle.pk_welltyped.specs.WellTyped.{Around, kind_in_file, IsStart}
 use Rattle.pk_type_laws.specs.Accepted.Names.{ObjectIs}
 use Rattle.pk_type_laws.proofs.Accepted.Walks.{W, Later, later_same, later, Steps, steps_none, steps}
@@ -72,10 +73,10 @@ first_in : (t : IntType) (zs : List ℤ) → All (InType t) zs → InType t (fir
 first_in t [] h = zero_is t
 first_in t (z ∷ zs) h = h 0 z (omega arith)
 
-pub given_fit : (x : Option InitializerTree) (n : ℕ) (at : Pos) → braces true x at ≡ [] → surplus (Some n) x ≡ [] → count (given x) ≤ n
+pub given_fit : (x : Option InitializerTree) (n : ℕ) (at : Pos) → braces true x at ≡ [] → misfit (Some n) x ≡ [] → count (given x) ≤ n
 given_fit None n at k h = omega arith
 given_fit (Some (single e)) n at k h = absurd (cc)
-given_fit (Some (braced o e es)) n at k h = room (expression_then e es) n h
+given_fit (Some (braced o is)) n at k h = room (is.first ∷ is.more) n h
 
 abbrev pub RoomIn : Bool → Option ℕ → ℕ → Type 0
 RoomIn false n k = Unit {0}

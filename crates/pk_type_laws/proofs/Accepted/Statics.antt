@@ -3,7 +3,7 @@ use Rattle.std.proofs.Common.{◌≡◌, ℕ, ◌+◌, ◌<◌, Bool, true, fals
 use Rattle.std.specs.Prelude.{is_some}
 use Rattle.pk_ctypes.specs.declared.places.Pos.{Pos}
 use Rattle.pk_ast.specs.declared.expressions.Identifier.{Identifier}
-use Rattle.pk_ast.specs.Trees.{ExpressionTree, ExpressionTrees, no_expressions, expression_then, InitializerTree, DeclaratorTree, DeclarationTree}
+use Rattle.pk_ast.specs.Trees.{ExpressionTree, ExpressionTrees, no_expressions, expression_then, InitializerTree, DimensionsTree, DeclaratorTree, DeclarationTree}
 use Rattle.pk_typed.specs.Trees.{LocalTree, FileObjectTree, UnitTree}
 use Rattle.pk_type_scope.specs.declared.declarations.Declaration.{Declaration}
 use Rattle.pk_type_scope.specs.declared.declarations.Typing.{Typing}
@@ -14,9 +14,10 @@ use Rattle.pk_type_scope.specs.Scopes.{Scoping, names_in, declaring}
 use Rattle.pk_type_expression.proofs.TreeLemmas.{none_before, none_after, holds_not}
 use Rattle.pk_type_declaration.specs.declared.words.Words.{Words}
 use Rattle.pk_type_declaration.specs.Constants.{evaluated, length_in, after_constant, after_length}
-use Rattle.pk_type_declaration.specs.Declarations.{type_or_int, text_of, at_name, redeclared, void_object, special_object, braces, surplus, length_at, after_optional_length, length_or_1, after_object_name, after_declarators, declarator_trees_at}
+use Rattle.pk_type_declaration.specs.Declarations.{type_or_int, text_of, at_name, redeclared, void_object, special_object, braces, misfit, length_at, after_columns, after_dimensions, length_or_1, after_object_name, after_declarators, declarator_trees_at}
 use Rattle.pk_type_declaration.specs.Enumerations.{words_at, after_words, word_trees_at}
-use Rattle.pk_type_declaration.specs.Starts.{after_numbers, numbers_at, given, start_of}
+use Rattle.pk_type_declaration.specs.Initializers.{given}
+use Rattle.pk_type_declaration.specs.Starts.{after_numbers, numbers_at, start_of}
 use Rattle.pk_type_declaration.specs.Statics.{next_static, static_at, after_static_head, static_of, after_static, after_statics, after_declaration, declaration_trees_at, after_static_declaration, static_trees_at, static_declaration_at, after_block_declaration, block_declaration_at}
 use Rattle.pk_type_declaration.specs.Walks.{StaticsTree, here, failing, with_static}
 use Rattle.pk_welltyped.specs.Listed.{calls_in_all_declared, objects_in_all_declared}
@@ -24,7 +25,7 @@ use Rattle.pk_welltyped.specs.WellTyped.{kind_in_file, AreDeclared}
 use Rattle.pk_type_laws.specs.Accepted.Constants.{DeclarationHas}
 use Rattle.pk_type_laws.specs.Accepted.Names.{NamesAre}
 use Rattle.pk_type_laws.proofs.Accepted.Walks.{W, around, none_found, statics_same, Later, later_same, later, later_failing, Steps, steps_none, steps}
-use Rattle.pk_type_laws.proofs.Accepted.Declarations.{has_types, names_later, names_declaring, StaticsStand, statics_before, Begins, length_steps, later_optional_length, later_declarators, AllDeclaring, declarators, moved}
+use Rattle.pk_type_laws.proofs.Accepted.Declarations.{has_types, names_later, names_declaring, StaticsStand, statics_before, Begins, length_steps, later_dimensions, no_columns, later_declarators, AllDeclaring, declarators, moved}
 use Rattle.pk_type_laws.proofs.Accepted.Enumerations.{later_words, words_locals, words_known, words_are, words_steps, word_trees_are, with_hidden}
 use Rattle.pk_type_laws.proofs.Accepted.Starts.{later_numbers, same_scope, numbers_steps, start_length, object_is, its_kind}
 
@@ -38,10 +39,10 @@ later_made o w = record { found = λ h. h; more = []; locals = sym (append-nil w
 
 pub later_static_head : (words : Words) (d : DeclaratorTree) (w : W) → Later w (after_static_head noted words d w)
 later_static_head words d w =
-    let v = after_optional_length noted d.length w in
-    let o = static_at words (is_some d.length) w in
+    let v = after_dimensions noted d.name.at d.dimensions w in
+    let o = static_at words (is_some d.dimensions) w in
     let x = after_object_name noted words.typing o d.name v in
-    later w v _ (later_optional_length d.length w) (later v x _ (later_object_name words.typing o d.name v) (later_failing (braces (is_some d.length) d.initializer d.name.at ++ surplus (length_at w d.length) d.initializer) x))
+    later w v _ (later_dimensions d.name.at d.dimensions w) (later v x _ (later_object_name words.typing o d.name v) (later_failing (braces (is_some d.dimensions) d.initializer d.name.at ++ misfit (length_at w d.dimensions) d.initializer) x))
 
 pub later_static : (words : Words) (d : DeclaratorTree) (w : W) → Later w (after_static noted words d w)
 unfolding after_static
@@ -117,22 +118,14 @@ static_made u ls words b n x i w v fs name nm sc st s0 void unknown l k h =
 pub name_not_void : (s : Scoping) (t : Typing) (x : Identifier) → at_name s t x ≡ [] → is_void t ≡ false
 name_not_void s t x h = holds_not _ _ _ (none_after (redeclared s x) (void_object t x.at) (none_before (redeclared s x ++ void_object t x.at) (special_object s x) h))
 
-static_is : (u : UnitTree) (ls : List LocalTree) (words : Words) (x : Identifier) (e : Option ExpressionTree) (i : Option InitializerTree) (w : W) → NamesAre (around u ls w) (here w) → is_unknown words.typing ≡ false
-    → (let d : DeclaratorTree = record { name = x; length = e; initializer = i } in let v = after_static noted words d w in StaticsStand u v.statics → v.found ≡ None → StaticDeclared u ls w v)
+static_array : (u : UnitTree) (ls : List LocalTree) (words : Words) (x : Identifier) (e : ExpressionTree) (c : Option ExpressionTree) (i : Option InitializerTree) (w : W) → NamesAre (around u ls w) (here w) → is_unknown words.typing ≡ false
+    → (let d : DeclaratorTree = record { name = x; dimensions = Some (record { length = e; columns = c }); initializer = i } in let v = after_static noted words d w in StaticsStand u v.statics → v.found ≡ None → StaticDeclared u ls w v)
 unfolding after_static
-static_is u ls words x None i w n unknown k h =
-    let d : DeclaratorTree = record { name = x; length = None; initializer = i } in
-    let fs = braces false i x.at ++ surplus None i in
-    let y = after_object_name noted words.typing (static_at words false w) x w in
-    let q = failing noted fs y in
-    let fq = (later_numbers (given i) q).found h in
-    let void = name_not_void w.scoping words.typing x (none_found w.found (at_name w.scoping words.typing x) (none_found y.found fs fq).0).1 in
-    static_made u ls words false None x i w w fs (text_of w.scoping x) n refl refl (steps_none w w refl refl) void unknown (later_static words d w) k h
-static_is u ls words x (Some e) i w n unknown k h =
-    let d : DeclaratorTree = record { name = x; length = Some e; initializer = i } in
+static_array u ls words x e None i w n unknown k h =
+    let d : DeclaratorTree = record { name = x; dimensions = Some (record { length = e; columns = None }); initializer = i } in
     let v = after_length noted e w in
     let m = length_in (evaluated w e) in
-    let fs = braces true i x.at ++ surplus m i in
+    let fs = braces true i x.at ++ misfit m i in
     let y = after_object_name noted words.typing (static_at words true w) x v in
     let q = failing noted fs y in
     let fq = (later_numbers (given i) q).found h in
@@ -140,6 +133,26 @@ static_is u ls words x (Some e) i w n unknown k h =
     let fv = none_found v.found (at_name v.scoping words.typing x) fy.0 in
     let void = name_not_void v.scoping words.typing x fv.1 in
     static_made u ls words true m x i w v fs (text_of w.scoping x) n refl refl (length_steps e w fv.0) void unknown (later_static words d w) k h
+static_array u ls words x e (Some c) i w n unknown k h =
+    let v = after_length noted e w in
+    let z = after_columns noted x.at (Some c) v in
+    let fs = braces true i x.at ++ misfit (length_in (evaluated w e)) i in
+    let y = after_object_name noted words.typing (static_at words true w) x z in
+    let fy = none_found y.found fs ((later_numbers (given i) (failing noted fs y)).found h) in
+    absurd (no_columns x.at c v (none_found z.found (at_name z.scoping words.typing x) fy.0).0)
+
+static_is : (u : UnitTree) (ls : List LocalTree) (words : Words) (x : Identifier) (e : Option DimensionsTree) (i : Option InitializerTree) (w : W) → NamesAre (around u ls w) (here w) → is_unknown words.typing ≡ false
+    → (let d : DeclaratorTree = record { name = x; dimensions = e; initializer = i } in let v = after_static noted words d w in StaticsStand u v.statics → v.found ≡ None → StaticDeclared u ls w v)
+unfolding after_static
+static_is u ls words x None i w n unknown k h =
+    let d : DeclaratorTree = record { name = x; dimensions = None; initializer = i } in
+    let fs = braces false i x.at ++ misfit None i in
+    let y = after_object_name noted words.typing (static_at words false w) x w in
+    let q = failing noted fs y in
+    let fq = (later_numbers (given i) q).found h in
+    let void = name_not_void w.scoping words.typing x (none_found w.found (at_name w.scoping words.typing x) (none_found y.found fs fq).0).1 in
+    static_made u ls words false None x i w w fs (text_of w.scoping x) n refl refl (steps_none w w refl refl) void unknown (later_static words d w) k h
+static_is u ls words x (Some e) i w n unknown k h = static_array u ls words x e.length e.columns i w n unknown k h
 
 -- ---- declarations
 
@@ -152,7 +165,7 @@ statics_are u ls words unknown (d ∷ ds) w n k h =
     let x = after_statics noted words ds v in
     let ts = static_trees_at noted words ds v in
     let l = later_statics words ds v in
-    let one = static_is u ls words d.name d.length d.initializer w n unknown (statics_before u v.statics x.statics l.statics k) (l.found h) in
+    let one = static_is u ls words d.name d.dimensions d.initializer w n unknown (statics_before u v.statics x.statics l.statics k) (l.found h) in
     let more = statics_are u ls words unknown ds v one.names k h in
     record {
       names = more.names;

@@ -16,7 +16,7 @@ use Rattle.pk_type_scope.specs.Failures.{noted, fails_if}
 use Rattle.pk_type_scope.specs.Scopes.{names_in, spelled}
 use Rattle.pk_type_scope.specs.Specifiers.{type_named, word_failures}
 use Rattle.pk_type_declaration.specs.declared.words.Words.{Words}
-use Rattle.pk_type_declaration.specs.Declarations.{words_of, type_or_int, text_of, redeclared, void_object, special_object, braces, surplus, length_at, after_optional_length, length_or_1}
+use Rattle.pk_type_declaration.specs.Declarations.{words_of, type_or_int, text_of, redeclared, void_object, special_object, braces, misfit, length_at, after_dimensions, length_or_1}
 use Rattle.pk_type_declaration.specs.Enumerations.{words_at, after_words}
 use Rattle.pk_type_declaration.specs.Specials.{special}
 use Rattle.pk_type_declaration.specs.Walks.{here, failing, after_name, with_local, entering}
@@ -24,7 +24,8 @@ use Rattle.pk_type_jump.specs.Jumps.{jumps_of}
 use Rattle.pk_type_jump.specs.Labels.{labels_of}
 use Rattle.pk_type_statement.specs.Statements.{Passed, after_items}
 use Rattle.pk_type_statement.specs.Trees.{typed_items}
-use Rattle.pk_type_declaration.specs.Starts.{after_numbers, numbers_at, given, start_of}
+use Rattle.pk_type_declaration.specs.Initializers.{given}
+use Rattle.pk_type_declaration.specs.Starts.{after_numbers, numbers_at, start_of}
 use Rattle.pk_type.specs.Files.{Filed, extern_object, file_object, after_head, after_object, after_objects, without_calls, on, after_declaration}
 use Rattle.pk_type.specs.Functions as functions
 use Rattle.pk_type.specs.Functions.{unnamed, after_parameter_name, after_parameter, after_parameters, is_redeclared, is_misused, number_of, callee_of, with_new, about_jumps, before_body, after_body, emptied, body_of, body_at, defining, leaving_function, after_optional_body, after_function}
@@ -32,7 +33,7 @@ use Rattle.pk_type.specs.Signatures.{signature_of}
 use Rattle.pk_type.specs.TypeNames.{named_type, after_type_name, after_type_names, after_typedef}
 use Rattle.pk_type.specs.Units.{no_name, defined_in, after_external, objects_in, after_externals, nothing_filed, checked}
 use Rattle.pk_type_laws.specs.Answered.Failures.{appended, listing}
-use Rattle.pk_type_laws.proofs.Answered.Walks.{L, W, first, failing_first, optional_length_first, length_at_first, object_first, words_first}
+use Rattle.pk_type_laws.proofs.Answered.Walks.{L, W, first, failing_first, dimensions_first, length_at_first, object_first, words_first}
 use Rattle.pk_type_laws.proofs.Answered.Statics.{numbers_first, numbers_same}
 use Rattle.pk_type_laws.proofs.Answered.Statements.{items_first, items_same}
 
@@ -53,18 +54,18 @@ filed_first f = with_walk f (first f.walked)
 
 head_first : (storage : Option Storage) (words : Words) (d : DeclaratorTree) (f : F) → after_head noted storage words d (filed_first f) ≡ first (after_head appended storage words d f)
 head_first storage words d f =
-    let v = after_optional_length appended d.length f.walked in
+    let v = after_dimensions appended d.name.at d.dimensions f.walked in
     let rows = redeclared v.scoping d.name ++ extern_object storage d.name ++ void_object words.typing d.name.at ++ special_object v.scoping d.name in
-    let fs = braces (is_some d.length) d.initializer d.name.at ++ surplus (length_at f.walked d.length) d.initializer in
-    let o = file_object words (is_some d.length) f in
+    let fs = braces (is_some d.dimensions) d.initializer d.name.at ++ misfit (length_at f.walked d.dimensions) d.initializer in
+    let o = file_object words (is_some d.dimensions) f in
     let begun : W → W = λ (w : W). after_name d.name o (failing noted (redeclared w.scoping d.name ++ extern_object storage d.name ++ void_object words.typing d.name.at ++ special_object w.scoping d.name) w) in
-    let same : after_head noted storage words d (filed_first f) ≡ failing noted fs (begun (after_optional_length noted d.length (first f.walked))) =
-    ap (λ (m : Option ℕ). failing noted (braces (is_some d.length) d.initializer d.name.at ++ surplus m d.initializer) (begun (after_optional_length noted d.length (first f.walked)))) (length_at_first d.length f.walked) in
-    same ∙ (ap (λ (w : W). failing noted fs (begun w)) (optional_length_first d.length f.walked)
+    let same : after_head noted storage words d (filed_first f) ≡ failing noted fs (begun (after_dimensions noted d.name.at d.dimensions (first f.walked))) =
+    ap (λ (m : Option ℕ). failing noted (braces (is_some d.dimensions) d.initializer d.name.at ++ misfit m d.initializer) (begun (after_dimensions noted d.name.at d.dimensions (first f.walked)))) (length_at_first d.dimensions f.walked) in
+    same ∙ (ap (λ (w : W). failing noted fs (begun w)) (dimensions_first d.name.at d.dimensions f.walked)
     ∙ (ap (λ (w : W). failing noted fs (after_name d.name o w)) (failing_first rows v) ∙ failing_first fs (after_name d.name o (failing appended rows v))))
 
 file_object_of : Words → DeclaratorTree → F → Option ℕ → List ℤ → FileObjectTree
-file_object_of words d f n ns = record { name = text_of f.walked.scoping d.name; int_type = type_or_int words.typing; start = start_of (length_or_1 (is_some d.length) n) ns }
+file_object_of words d f n ns = record { name = text_of f.walked.scoping d.name; int_type = type_or_int words.typing; start = start_of (length_or_1 (is_some d.dimensions) n) ns }
 
 made : F → W → FileObjectTree → G
 made f w o = record { walked = w; objects = f.objects ++ o ∷ []; functions = f.functions }
@@ -79,9 +80,9 @@ object_of_file_first storage words d f =
     let same : v ≡ first w = head_first storage words d f in
     let walk : after_numbers noted es v ≡ first (after_numbers appended es w) = ap (after_numbers noted es) same ∙ numbers_first es w in
     let numbers : numbers_at noted t es v ≡ numbers_at appended t es w = ap (numbers_at noted t es) same ∙ numbers_same t es w in
-    ap (λ (x : W). made f x (file_object_of words d f (length_at (first f.walked) d.length) (numbers_at noted t es v))) walk
-    ∙ (ap (λ (n : Option ℕ). made f (first (after_numbers appended es w)) (file_object_of words d f n (numbers_at noted t es v))) (length_at_first d.length f.walked)
-    ∙ ap (λ (ns : List ℤ). made f (first (after_numbers appended es w)) (file_object_of words d f (length_at f.walked d.length) ns)) numbers)
+    ap (λ (x : W). made f x (file_object_of words d f (length_at (first f.walked) d.dimensions) (numbers_at noted t es v))) walk
+    ∙ (ap (λ (n : Option ℕ). made f (first (after_numbers appended es w)) (file_object_of words d f n (numbers_at noted t es v))) (length_at_first d.dimensions f.walked)
+    ∙ ap (λ (ns : List ℤ). made f (first (after_numbers appended es w)) (file_object_of words d f (length_at f.walked d.dimensions) ns)) numbers)
 
 objects_first : (storage : Option Storage) (words : Words) (ds : List DeclaratorTree) (f : F) → after_objects noted storage words ds (filed_first f) ≡ filed_first (after_objects appended storage words ds f)
 unfolding after_objects

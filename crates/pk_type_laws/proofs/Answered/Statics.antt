@@ -8,13 +8,14 @@ use Rattle.pk_typed.specs.Trees.{FileObjectTree, DeclaredTree}
 use Rattle.pk_type_scope.specs.Failures.{noted}
 use Rattle.pk_type_declaration.specs.declared.words.Words.{Words}
 use Rattle.pk_type_declaration.specs.Constants.{after_constant}
-use Rattle.pk_type_declaration.specs.Declarations.{type_or_int, text_of, at_name, braces, surplus, length_at, after_optional_length, length_or_1, after_object_name}
+use Rattle.pk_type_declaration.specs.Declarations.{type_or_int, text_of, at_name, braces, misfit, length_at, after_dimensions, length_or_1, after_object_name}
 use Rattle.pk_type_declaration.specs.Enumerations.{words_at, after_words, word_trees_at}
-use Rattle.pk_type_declaration.specs.Starts.{number_at, after_numbers, numbers_at, given, start_of}
+use Rattle.pk_type_declaration.specs.Initializers.{given}
+use Rattle.pk_type_declaration.specs.Starts.{number_at, after_numbers, numbers_at, start_of}
 use Rattle.pk_type_declaration.specs.Statics.{static_at, after_static_head, after_static, after_statics, after_static_declaration, static_tree_at, static_trees_at, static_declaration_at, after_block_declaration, block_declaration_at}
 use Rattle.pk_type_declaration.specs.Walks.{here, failing, after_name, with_static}
 use Rattle.pk_type_laws.specs.Answered.Failures.{appended}
-use Rattle.pk_type_laws.proofs.Answered.Walks.{L, W, first, failing_first, constant_first, optional_length_first, length_at_first, words_first, word_trees_same, declaration_first, declaration_same}
+use Rattle.pk_type_laws.proofs.Answered.Walks.{L, W, first, failing_first, constant_first, dimensions_first, length_at_first, words_first, word_trees_same, declaration_first, declaration_same}
 
 pub numbers_first : (es : ExpressionTrees) (w : L) → after_numbers noted es (first w) ≡ first (after_numbers appended es w)
 unfolding after_numbers
@@ -29,13 +30,13 @@ numbers_same t (expression_then e es) w =
 
 static_head_first : (words : Words) (d : DeclaratorTree) (w : L) → after_static_head noted words d (first w) ≡ first (after_static_head appended words d w)
 static_head_first words d w =
-    let o = static_at words (is_some d.length) w in
-    let v = after_optional_length appended d.length w in
-    let fs = braces (is_some d.length) d.initializer d.name.at ++ surplus (length_at w d.length) d.initializer in
+    let o = static_at words (is_some d.dimensions) w in
+    let v = after_dimensions appended d.name.at d.dimensions w in
+    let fs = braces (is_some d.dimensions) d.initializer d.name.at ++ misfit (length_at w d.dimensions) d.initializer in
     let begun : W → W = λ (z : W). after_object_name noted words.typing o d.name z in
-    let same : after_static_head noted words d (first w) ≡ failing noted fs (begun (after_optional_length noted d.length (first w))) =
-    ap (λ (m : Option ℕ). failing noted (braces (is_some d.length) d.initializer d.name.at ++ surplus m d.initializer) (begun (after_optional_length noted d.length (first w)))) (length_at_first d.length w) in
-    same ∙ (ap (λ (z : W). failing noted fs (begun z)) (optional_length_first d.length w)
+    let same : after_static_head noted words d (first w) ≡ failing noted fs (begun (after_dimensions noted d.name.at d.dimensions (first w))) =
+    ap (λ (m : Option ℕ). failing noted (braces (is_some d.dimensions) d.initializer d.name.at ++ misfit m d.initializer) (begun (after_dimensions noted d.name.at d.dimensions (first w)))) (length_at_first d.dimensions w) in
+    same ∙ (ap (λ (z : W). failing noted fs (begun z)) (dimensions_first d.name.at d.dimensions w)
     ∙ (ap (λ (z : W). failing noted fs (after_name d.name o z)) (failing_first (at_name v.scoping words.typing d.name) v) ∙ failing_first fs (after_object_name appended words.typing o d.name v)))
 
 static_first : (words : Words) (d : DeclaratorTree) (w : L) → after_static noted words d (first w) ≡ first (after_static appended words d w)
@@ -46,12 +47,12 @@ static_first words d w =
     let v = after_static_head noted words d (first w) in
     let x = after_static_head appended words d w in
     let y = after_numbers appended es x in
-    let object : Option ℕ → List ℤ → FileObjectTree = λ (n : Option ℕ). λ (ns : List ℤ). record { name = text_of w.scoping d.name; int_type = t; start = start_of (length_or_1 (is_some d.length) n) ns } in
+    let object : Option ℕ → List ℤ → FileObjectTree = λ (n : Option ℕ). λ (ns : List ℤ). record { name = text_of w.scoping d.name; int_type = t; start = start_of (length_or_1 (is_some d.dimensions) n) ns } in
     let same : v ≡ first x = static_head_first words d w in
     let walk : after_numbers noted es v ≡ first y = ap (after_numbers noted es) same ∙ numbers_first es x in
     let numbers : numbers_at noted t es v ≡ numbers_at appended t es x = ap (numbers_at noted t es) same ∙ numbers_same t es x in
-    ap (λ (z : W). with_static (object (length_at (first w) d.length) (numbers_at noted t es v)) z) walk
-    ∙ (ap (λ (n : Option ℕ). with_static (object n (numbers_at noted t es v)) (first y)) (length_at_first d.length w) ∙ ap (λ (ns : List ℤ). with_static (object (length_at w d.length) ns) (first y)) numbers)
+    ap (λ (z : W). with_static (object (length_at (first w) d.dimensions) (numbers_at noted t es v)) z) walk
+    ∙ (ap (λ (n : Option ℕ). with_static (object n (numbers_at noted t es v)) (first y)) (length_at_first d.dimensions w) ∙ ap (λ (ns : List ℤ). with_static (object (length_at w d.dimensions) ns) (first y)) numbers)
 
 statics_first : (words : Words) (ds : List DeclaratorTree) (w : L) → after_statics noted words ds (first w) ≡ first (after_statics appended words ds w)
 unfolding after_statics

@@ -7,7 +7,7 @@ use Rattle.pk_ctypes.specs.declared.words.Rule.TheVariants as rule
 use Rattle.pk_ast.specs.declared.declarations.Specifier.{Specifier}
 use Rattle.pk_ast.specs.declared.expressions.Identifier.{Identifier}
 use Rattle.pk_ast.specs.Places.{first_place_of}
-use Rattle.pk_ast.specs.Trees.{OneOrMore, ExpressionTree, ExpressionTrees, InitializerTree, single, braced, DeclaratorTree, EnumeratorTree, EnumerationTree, DeclarationTree}
+use Rattle.pk_ast.specs.Trees.{OneOrMore, ExpressionTree, ExpressionTrees, InitializerTree, single, braced, DimensionsTree, DeclaratorTree, EnumeratorTree, EnumerationTree, DeclarationTree}
 use Rattle.pk_typed.specs.Trees.{DeclaredTree}
 use Rattle.pk_type_scope.specs.declared.failures.Failure.{Failure}
 use Rattle.pk_type_scope.specs.Failures.{noted, fails_if}
@@ -18,9 +18,10 @@ use Rattle.pk_type_expression.specs.Rules.{failures, used_failures, failures_use
 use Rattle.pk_type_expression.specs.Typed.{of_both}
 use Rattle.pk_type_declaration.specs.declared.words.Words.{Words}
 use Rattle.pk_type_declaration.specs.Constants.{evaluated, is_refused, is_refused_length, after_constant, after_length}
-use Rattle.pk_type_declaration.specs.Declarations.{redeclared, special_object, object_at, local_of, at_name, braces, surplus, after_initializer, length_at, after_optional_length, after_object, after_head, after_declarator, after_declarators, scalar_tree, array_tree, object_tree, declarator_tree_at, declarator_trees_at}
+use Rattle.pk_type_declaration.specs.Declarations.{redeclared, special_object, object_at, local_of, at_name, braces, misfit, after_initializer, length_at, after_columns, after_dimensions, after_object, after_head, after_declarator, after_declarators, scalar_tree, array_tree, object_tree, declarator_tree_at, declarator_trees_at}
 use Rattle.pk_type_declaration.specs.Enumerations.{words_at, int_named, after_tag, next_number, is_beyond, enumerator_value, is_refused_enumerator, after_enumerator_value, after_enumerator_name, after_enumerator, after_enumerators, after_words, hidden, hidden_by, word_trees_at}
 use Rattle.pk_type_declaration.specs.Statics.{after_declaration, declaration_trees_at}
+use Rattle.pk_type_declaration.specs.Initializers.{braced_values}
 use Rattle.pk_type_declaration.specs.Walks.{Walked, here, failing, after_value, after_effect, after_values, after_name, with_local}
 use Rattle.pk_type_laws.specs.Answered.Failures.{appended}
 
@@ -60,18 +61,24 @@ length_first e w =
     let fs = fails_if (is_refused_length (evaluated w e)) rule.Constant (first_place_of e) in
     ap (failing noted fs) (value_first e w) ∙ failing_first fs (after_value appended e w)
 
-pub optional_length_first : (n : Option ExpressionTree) (w : L) → after_optional_length noted n (first w) ≡ first (after_optional_length appended n w)
-optional_length_first None w = refl
-optional_length_first (Some e) w = length_first e w
+columns_first : (at : Pos) (e : Option ExpressionTree) (w : L) → after_columns noted at e (first w) ≡ first (after_columns appended at e w)
+columns_first at None w = refl
+columns_first at (Some e) w =
+    let fs = fails_if true rule.Array at in
+    ap (failing noted fs) (length_first e w) ∙ failing_first fs (after_length appended e w)
+
+pub dimensions_first : (at : Pos) (d : Option DimensionsTree) (w : L) → after_dimensions noted at d (first w) ≡ first (after_dimensions appended at d w)
+dimensions_first at None w = refl
+dimensions_first at (Some d) w = ap (after_columns noted at d.columns) (length_first d.length w) ∙ columns_first at d.columns (after_length appended d.length w)
 
 pub initializer_first : (i : Option InitializerTree) (w : L) → after_initializer noted i (first w) ≡ first (after_initializer appended i w)
 initializer_first None w = refl
 initializer_first (Some (single e)) w = value_first e w
-initializer_first (Some (braced at e es)) w = ap (after_values noted es) (value_first e w) ∙ values_first es (after_value appended e w)
+initializer_first (Some (braced at is)) w = values_first (braced_values is) w
 
-pub length_at_first : (n : Option ExpressionTree) (w : L) → length_at (first w) n ≡ length_at w n
+pub length_at_first : (d : Option DimensionsTree) (w : L) → length_at (first w) d ≡ length_at w d
 length_at_first None w = refl
-length_at_first (Some e) w = refl
+length_at_first (Some d) w = refl
 
 -- ---- declared objects
 
@@ -81,14 +88,14 @@ object_first words is_array n x w =
 
 pub head_first : (words : Words) (d : DeclaratorTree) (w : L) → after_head noted words d (first w) ≡ first (after_head appended words d w)
 head_first words d w =
-    let n = length_at w d.length in
-    let fs = braces (is_some d.length) d.initializer d.name.at ++ surplus n d.initializer in
-    let v = after_optional_length appended d.length w in
-    let u = after_object appended words (is_some d.length) n d.name v in
-    let same : after_head noted words d (first w) ≡ failing noted fs (after_object noted words (is_some d.length) n d.name (after_optional_length noted d.length (first w))) =
-    ap (λ (m : Option ℕ). failing noted (braces (is_some d.length) d.initializer d.name.at ++ surplus m d.initializer) (after_object noted words (is_some d.length) m d.name (after_optional_length noted d.length (first w)))) (length_at_first d.length w) in
-    same ∙ (ap (λ (z : W). failing noted fs (after_object noted words (is_some d.length) n d.name z)) (optional_length_first d.length w)
-    ∙ (ap (failing noted fs) (object_first words (is_some d.length) n d.name v) ∙ failing_first fs u))
+    let n = length_at w d.dimensions in
+    let fs = braces (is_some d.dimensions) d.initializer d.name.at ++ misfit n d.initializer in
+    let v = after_dimensions appended d.name.at d.dimensions w in
+    let u = after_object appended words (is_some d.dimensions) n d.name v in
+    let same : after_head noted words d (first w) ≡ failing noted fs (after_object noted words (is_some d.dimensions) n d.name (after_dimensions noted d.name.at d.dimensions (first w))) =
+    ap (λ (m : Option ℕ). failing noted (braces (is_some d.dimensions) d.initializer d.name.at ++ misfit m d.initializer) (after_object noted words (is_some d.dimensions) m d.name (after_dimensions noted d.name.at d.dimensions (first w)))) (length_at_first d.dimensions w) in
+    same ∙ (ap (λ (z : W). failing noted fs (after_object noted words (is_some d.dimensions) n d.name z)) (dimensions_first d.name.at d.dimensions w)
+    ∙ (ap (failing noted fs) (object_first words (is_some d.dimensions) n d.name v) ∙ failing_first fs u))
 
 pub declarator_first : (words : Words) (d : DeclaratorTree) (w : L) → after_declarator noted words d (first w) ≡ first (after_declarator appended words d w)
 unfolding after_declarator
@@ -151,22 +158,22 @@ declaration_first d w =
 scalar_same : (n : ℕ) (at : Pos) (i : Option InitializerTree) (w : L) → scalar_tree n at i (first w) ≡ scalar_tree n at i w
 scalar_same n at None w = refl
 scalar_same n at (Some (single e)) w = refl
-scalar_same n at (Some (braced brace e es)) w = refl
+scalar_same n at (Some (braced brace is)) w = refl
 
-array_same : (n : ℕ) (at : Pos) (i : Option InitializerTree) (w : L) → array_tree noted n at i (first w) ≡ array_tree appended n at i w
+array_same : (n : ℕ) (at : Pos) (i : Option InitializerTree) (w : L) → array_tree n at i (first w) ≡ array_tree n at i w
 array_same n at None w = refl
 array_same n at (Some (single e)) w = refl
-array_same n at (Some (braced brace e es)) w = refl
+array_same n at (Some (braced brace is)) w = refl
 
-object_same : (is_array : Bool) (n : ℕ) (at : Pos) (i : Option InitializerTree) (w : L) → object_tree noted is_array n at i (first w) ≡ object_tree appended is_array n at i w
+object_same : (is_array : Bool) (n : ℕ) (at : Pos) (i : Option InitializerTree) (w : L) → object_tree is_array n at i (first w) ≡ object_tree is_array n at i w
 object_same true n at i w = array_same n at i w
 object_same false n at i w = scalar_same n at i w
 
 declarator_same : (words : Words) (d : DeclaratorTree) (w : L) → declarator_tree_at noted words d (first w) ≡ declarator_tree_at appended words d w
 unfolding declarator_tree_at
 declarator_same words d w =
-    ap (object_tree noted (is_some d.length) (length w.locals) d.name.at d.initializer) (head_first words d w)
-    ∙ object_same (is_some d.length) (length w.locals) d.name.at d.initializer (after_head appended words d w)
+    ap (object_tree (is_some d.dimensions) (length w.locals) d.name.at d.initializer) (head_first words d w)
+    ∙ object_same (is_some d.dimensions) (length w.locals) d.name.at d.initializer (after_head appended words d w)
 
 declarators_same : (words : Words) (ds : List DeclaratorTree) (w : L) → declarator_trees_at noted words ds (first w) ≡ declarator_trees_at appended words ds w
 unfolding declarator_trees_at

@@ -6,7 +6,7 @@ use Rattle.std.specs.Option.{option_map}
 use Rattle.pk_ctypes.specs.declared.places.Pos.{Pos}
 use Rattle.pk_ctypes.specs.declared.types.IntType.{IntType}
 use Rattle.pk_ast.specs.declared.expressions.Identifier.{Identifier}
-use Rattle.pk_ast.specs.Trees.{ExpressionTree, ExpressionTrees, no_expressions, expression_then, InitializerTree, single, braced, DeclaratorTree, DeclarationTree}
+use Rattle.pk_ast.specs.Trees.{ExpressionTree, ExpressionTrees, no_expressions, expression_then, InitializerTree, single, braced, DimensionsTree, DeclaratorTree, DeclarationTree}
 use Rattle.pk_typed.specs.Trees as tree
 use Rattle.pk_typed.specs.Trees.{value_before}
 use Rattle.pk_type_scope.specs.declared.declarations.Declaration.{Declaration}
@@ -21,9 +21,10 @@ use Rattle.pk_type_expression.specs.Typed.{EvaluatedTree, value, effect, value_o
 use Rattle.pk_type_expression.specs.Types.{type_of}
 use Rattle.pk_type_expression.proofs.TreeLemmas.{accepted_expressions_have_trees, none_before, none_after}
 use Rattle.pk_type_declaration.specs.declared.words.Words.{Words}
-use Rattle.pk_type_declaration.specs.Declarations.{integer_in, object_at, at_name, braces, surplus, after_initializer, length_at, after_optional_length, after_object_name, after_object, after_head, after_declarator, after_declarators, object_tree, declarator_tree_at, declarator_trees_at}
+use Rattle.pk_type_declaration.specs.Constants.{after_length}
+use Rattle.pk_type_declaration.specs.Declarations.{integer_in, object_at, at_name, braces, misfit, after_initializer, length_at, after_columns, after_dimensions, after_object_name, after_object, after_head, after_declarator, after_declarators, object_tree, declarator_tree_at, declarator_trees_at}
 use Rattle.pk_type_declaration.specs.Enumerations.{words_at, after_words, word_trees_at}
-use Rattle.pk_type_declaration.specs.Starts.{given}
+use Rattle.pk_type_declaration.specs.Initializers.{braced_values, given}
 use Rattle.pk_type_declaration.specs.Statics.{static_at, after_static_head, after_static, after_statics, after_declaration, declaration_trees_at, after_static_declaration, after_block_declaration, block_declaration_at}
 use Rattle.pk_type_declaration.specs.Walks.{here, after_value, after_effect, value_at, effect_at, values_at}
 use Rattle.pk_type_laws.proofs.Accepted.Declarations.{all_declaring, not_void, later_declarators, found_last, is_used}
@@ -112,46 +113,48 @@ pub object_known : (words : Words) (b : Bool) (n : Option ℕ) (x : Identifier) 
     → Known (after_object noted words b n x w).scoping
 object_known words b n x w u k h = known_declaring w.scoping x (object_at words b w) k (integer_has words.typing u (not_void words b n x w h))
 
-pub length_scope : (n : Option ExpressionTree) (w : W) → (after_optional_length noted n w).scoping ≡ w.scoping
-length_scope None w = refl
-length_scope (Some e) w = refl
+columns_scope : (at : Pos) (e : Option ExpressionTree) (w : W) → (after_columns noted at e w).scoping ≡ w.scoping
+columns_scope at None w = refl
+columns_scope at (Some e) w = refl
+
+pub dimensions_scope : (at : Pos) (d : Option DimensionsTree) (w : W) → (after_dimensions noted at d w).scoping ≡ w.scoping
+dimensions_scope at None w = refl
+dimensions_scope at (Some d) w = columns_scope at d.columns (after_length noted d.length w)
 
 initializer_scope : (i : Option InitializerTree) (w : W) → (after_initializer noted i w).scoping ≡ w.scoping
 initializer_scope None w = refl
 initializer_scope (Some (single e)) w = refl
-initializer_scope (Some (braced at e es)) w = refl
+initializer_scope (Some (braced at is)) w = refl
 
 initializer_before : (i : Option InitializerTree) (w : W) → (after_initializer noted i w).found ≡ None → w.found ≡ None
 initializer_before None w h = h
 initializer_before (Some (single e)) w h = (none_found w.found (used_failures (here w) e) h).0
-initializer_before (Some (braced at e es)) w h = (none_found w.found (used_failures (here w) e) (none_found (after_value noted e w).found (failures_used (here w) es) h).0).0
+initializer_before (Some (braced at is)) w h = (none_found w.found (failures_used (here w) (braced_values is)) h).0
 
 initial_there : (b : Bool) (n : ℕ) (at place : Pos) (i : Option InitializerTree) (w : W) → Known w.scoping → braces b i place ≡ [] → (after_initializer noted i w).found ≡ None
-    → is_some (object_tree noted b n at i w) ≡ true
+    → is_some (object_tree b n at i w) ≡ true
 initial_there true n at place None w k r h = refl
 initial_there true n at place (Some (single e)) w k r h = absurd (cc)
-initial_there true n at place (Some (braced o e es)) w k r h =
-    let all = none_found (after_value noted e w).found (failures_used (here w) es) h in
-    let v = after_value noted e w in
-    mapped_there (λ vs. tree.array_object n at (Some vs)) (of_both value_before (value_at w e) (values_at v es))
-    (both_there value_before (value_at w e) (values_at v es) (value_is w e k all.0) (all_there (here w) (length v.calls) es k all.1))
+initial_there true n at place (Some (braced o is)) w k r h =
+    let es = braced_values is in
+    mapped_there (λ vs. tree.array_object n at (Some vs)) (values_at w es) (all_there (here w) (length w.calls) es k (none_found w.found (failures_used (here w) es) h).1)
 initial_there false n at place None w k r h = refl
 initial_there false n at place (Some (single e)) w k r h = mapped_there (λ v. tree.scalar_object n at (Some v)) (value_at w e) (value_is w e k h)
-initial_there false n at place (Some (braced o e es)) w k r h = absurd (cc)
+initial_there false n at place (Some (braced o is)) w k r h = absurd (cc)
 
 declarator_there : (words : Words) (d : DeclaratorTree) (w : W) → is_unknown words.typing ≡ false → Known w.scoping → (after_declarator noted words d w).found ≡ None
     → (is_some (declarator_tree_at noted words d w) ≡ true) × Known (after_declarator noted words d w).scoping
 unfolding after_declarator declarator_tree_at
 declarator_there words d w u k h =
-    let n = length_at w d.length in
-    let v = after_optional_length noted d.length w in
-    let o = after_object noted words (is_some d.length) n d.name v in
+    let n = length_at w d.dimensions in
+    let v = after_dimensions noted d.name.at d.dimensions w in
+    let o = after_object noted words (is_some d.dimensions) n d.name v in
     let x = after_head noted words d w in
     let hx : x.found ≡ None = initializer_before d.initializer x h in
-    let rows = none_found o.found (braces (is_some d.length) d.initializer d.name.at ++ surplus n d.initializer) hx in
-    let kv : Known v.scoping = subst Known (sym (length_scope d.length w)) k in
-    let kx : Known x.scoping = object_known words (is_some d.length) n d.name v u kv rows.0 in (
-      initial_there (is_some d.length) (length w.locals) d.name.at d.name.at d.initializer x kx (none_before (braces (is_some d.length) d.initializer d.name.at) (surplus n d.initializer) rows.1) h,
+    let rows = none_found o.found (braces (is_some d.dimensions) d.initializer d.name.at ++ misfit n d.initializer) hx in
+    let kv : Known v.scoping = subst Known (sym (dimensions_scope d.name.at d.dimensions w)) k in
+    let kx : Known x.scoping = object_known words (is_some d.dimensions) n d.name v u kv rows.0 in (
+      initial_there (is_some d.dimensions) (length w.locals) d.name.at d.name.at d.initializer x kx (none_before (braces (is_some d.dimensions) d.initializer d.name.at) (misfit n d.initializer) rows.1) h,
       subst Known (sym (initializer_scope d.initializer x)) kx,
     )
 
@@ -180,14 +183,14 @@ declaration_there d w k h =
 pub static_known : (words : Words) (d : DeclaratorTree) (w : W) → is_unknown words.typing ≡ false → Known w.scoping → (after_static noted words d w).found ≡ None → Known (after_static noted words d w).scoping
 unfolding after_static
 static_known words d w u k h =
-    let v = after_optional_length noted d.length w in
-    let o = static_at words (is_some d.length) w in
+    let v = after_dimensions noted d.name.at d.dimensions w in
+    let o = static_at words (is_some d.dimensions) w in
     let y = after_object_name noted words.typing o d.name v in
     let q = after_static_head noted words d w in
     let hq : q.found ≡ None = (later_numbers (given d.initializer) q).found h in
-    let hy = none_found y.found (braces (is_some d.length) d.initializer d.name.at ++ surplus (length_at w d.length) d.initializer) hq in
+    let hy = none_found y.found (braces (is_some d.dimensions) d.initializer d.name.at ++ misfit (length_at w d.dimensions) d.initializer) hq in
     let void = name_not_void v.scoping words.typing d.name (none_found v.found (at_name v.scoping words.typing d.name) hy.0).1 in
-    let kv : Known v.scoping = subst Known (sym (length_scope d.length w)) k in
+    let kv : Known v.scoping = subst Known (sym (dimensions_scope d.name.at d.dimensions w)) k in
     subst Known (sym (same_scope (given d.initializer) q)) (known_declaring v.scoping d.name o kv (integer_has words.typing u void))
 
 statics_known : (words : Words) (ds : List DeclaratorTree) (w : W) → is_unknown words.typing ≡ false → Known w.scoping → (after_statics noted words ds w).found ≡ None → Known (after_statics noted words ds w).scoping

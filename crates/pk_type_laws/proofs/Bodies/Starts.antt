@@ -5,7 +5,7 @@ use Rattle.std.specs.Prelude.{All}
 use Rattle.pk_ctypes.specs.declared.places.Pos.{Pos}
 use Rattle.pk_ast.specs.declared.expressions.Identifier.{Identifier}
 use Rattle.pk_ast.specs.Trees as ast
-use Rattle.pk_ast.specs.Trees.{ExpressionTree, InitializerTree, single, braced, DeclaratorTree, DeclarationTree, ForStartTree, declaration, expression, StatementTree, ItemTrees, no_items, declaration_then, statement_then, ParameterTree, TypedefTree}
+use Rattle.pk_ast.specs.Trees.{ExpressionTree, InitializerTree, single, braced, DimensionsTree, DeclaratorTree, DeclarationTree, ForStartTree, declaration, expression, StatementTree, ItemTrees, no_items, declaration_then, statement_then, ParameterTree, TypedefTree}
 use Rattle.pk_typed.specs.Trees.{FileObjectTree}
 use Rattle.pk_type_scope.specs.declared.declarations.NamedType.{NamedType}
 use Rattle.pk_type_scope.specs.declared.declarations.Typing.{Typing}
@@ -16,9 +16,10 @@ use Rattle.pk_type_expression.specs.Rules.{count, used_failures}
 use Rattle.pk_type_expression.specs.Types.{type_of}
 use Rattle.pk_type_declaration.specs.declared.words.Words.{Words}
 use Rattle.pk_type_declaration.specs.Constants.{evaluated, length_in, after_length}
-use Rattle.pk_type_declaration.specs.Declarations.{type_or_int, text_of, at_name, braces, surplus, after_initializer, after_optional_length, length_or_1, after_head, after_object_name, after_declarator, after_declarators}
+use Rattle.pk_type_declaration.specs.Declarations.{type_or_int, text_of, at_name, braces, misfit, after_initializer, after_columns, after_dimensions, length_or_1, after_head, after_object_name, after_declarator, after_declarators}
 use Rattle.pk_type_declaration.specs.Enumerations.{words_at, after_words}
-use Rattle.pk_type_declaration.specs.Starts.{after_numbers, numbers_at, given, start_of}
+use Rattle.pk_type_declaration.specs.Initializers.{given}
+use Rattle.pk_type_declaration.specs.Starts.{after_numbers, numbers_at, start_of}
 use Rattle.pk_type_declaration.specs.Statics.{static_at, after_static_head, after_static, after_statics, after_declaration, after_static_declaration, after_block_declaration}
 use Rattle.pk_type_declaration.specs.Walks.{StaticsTree, here, failing, after_value}
 use Rattle.pk_type_statement.specs.Statements.{on, inside, after, after_items, with_case, with_default, in_switch, repeated_cases, after_start, after_optional_value, after_optional_effect}
@@ -28,7 +29,7 @@ use Rattle.pk_type.specs.TypeNames.{named_type, after_type_name, after_type_name
 use Rattle.pk_welltyped.specs.WellTyped.{IsStart}
 use Rattle.pk_type_expression.proofs.TreeLemmas.{none_before, none_after}
 use Rattle.pk_type_laws.proofs.Accepted.Walks.{W, none_found}
-use Rattle.pk_type_laws.proofs.Accepted.Declarations.{length_has}
+use Rattle.pk_type_laws.proofs.Accepted.Declarations.{length_has, no_columns}
 use Rattle.pk_type_laws.proofs.Accepted.Enumerations.{words_statics, words_names, words_known, holds_types}
 use Rattle.pk_type_laws.proofs.Accepted.Starts.{later_numbers, numbers_in_type, numbers_many, given_fit, RoomIn, start_is}
 use Rattle.pk_type_laws.proofs.Accepted.Statements.{later_statement, later_items}
@@ -47,20 +48,24 @@ starts_together xs ys h k = All-append (λ (x : FileObjectTree). IsStart x.int_t
 
 -- ---- what makes none
 
-pub length_statics : (n : Option ExpressionTree) (w : W) → (after_optional_length noted n w).statics ≡ w.statics
-length_statics None w = refl
-length_statics (Some e) w = refl
+columns_statics : (at : Pos) (e : Option ExpressionTree) (w : W) → (after_columns noted at e w).statics ≡ w.statics
+columns_statics at None w = refl
+columns_statics at (Some e) w = refl
+
+pub dimensions_statics : (at : Pos) (d : Option DimensionsTree) (w : W) → (after_dimensions noted at d w).statics ≡ w.statics
+dimensions_statics at None w = refl
+dimensions_statics at (Some d) w = columns_statics at d.columns (after_length noted d.length w)
 
 initializer_statics : (i : Option InitializerTree) (w : W) → (after_initializer noted i w).statics ≡ w.statics
 initializer_statics None w = refl
 initializer_statics (Some (single e)) w = refl
-initializer_statics (Some (braced at e es)) w = refl
+initializer_statics (Some (braced at is)) w = refl
 
 declarators_statics : (words : Words) (ds : List DeclaratorTree) (w : W) → (after_declarators noted words ds w).statics ≡ w.statics
 unfolding after_declarators after_declarator
 declarators_statics words [] w = refl
 declarators_statics words (d ∷ ds) w =
-    declarators_statics words ds (after_declarator noted words d w) ∙ (initializer_statics d.initializer (after_head noted words d w) ∙ length_statics d.length w)
+    declarators_statics words ds (after_declarator noted words d w) ∙ (initializer_statics d.initializer (after_head noted words d w) ∙ dimensions_statics d.name.at d.dimensions w)
 
 declaration_statics : (d : DeclarationTree) (w : W) → (after_declaration noted d w).statics ≡ w.statics
 unfolding after_declaration
@@ -116,24 +121,36 @@ one_more words name b n i w q same room a =
     let is = start_is t b n zs (numbers_in_type t (given i) q) (subst (RoomIn b n) (sym (numbers_many t (given i) q)) room) in
     subst (λ (s : StaticsTree). AreStarts (s.made ++ o ∷ [])) (sym (same_statics (given i) q ∙ same)) (All-push (λ (x : FileObjectTree). IsStart x.int_type x.start) w.statics.made o a is)
 
-static_start : (words : Words) (x : Identifier) (e : Option ExpressionTree) (i : Option InitializerTree) (w : W) → Known w.scoping → AreStarts w.statics.made
-    → (let d : DeclaratorTree = record { name = x; length = e; initializer = i } in (after_static noted words d w).found ≡ None → AreStarts (after_static noted words d w).statics.made)
+array_start : (words : Words) (x : Identifier) (e : ExpressionTree) (c : Option ExpressionTree) (i : Option InitializerTree) (w : W) → Known w.scoping → AreStarts w.statics.made
+    → (let d : DeclaratorTree = record { name = x; dimensions = Some (record { length = e; columns = c }); initializer = i } in (after_static noted words d w).found ≡ None → AreStarts (after_static noted words d w).statics.made)
 unfolding after_static
-static_start words x None i w k a h =
-    let d : DeclaratorTree = record { name = x; length = None; initializer = i } in
-    one_more words (text_of w.scoping x) false None i w (after_static_head noted words d w) refl tt a
-static_start words x (Some e) i w k a h =
-    let d : DeclaratorTree = record { name = x; length = Some e; initializer = i } in
+array_start words x e None i w k a h =
+    let d : DeclaratorTree = record { name = x; dimensions = Some (record { length = e; columns = None }); initializer = i } in
     let v = after_length noted e w in
     let n = length_in (evaluated w e) in
-    let fs = braces true i x.at ++ surplus n i in
+    let fs = braces true i x.at ++ misfit n i in
     let y = after_object_name noted words.typing (static_at words true w) x v in
     let q = after_static_head noted words d w in
     let fy = none_found y.found fs ((later_numbers (given i) q).found h) in
     let fv = none_found v.found (at_name v.scoping words.typing x) fy.0 in
     let m = length_has w e k fv.0 in
-    let fits = given_fit i m.0 x.at (none_before (braces true i x.at) (surplus n i) fy.1) (rw m.1 at (none_after (braces true i x.at) (surplus n i) fy.1)) in
+    let fits = given_fit i m.0 x.at (none_before (braces true i x.at) (misfit n i) fy.1) (rw m.1 at (none_after (braces true i x.at) (misfit n i) fy.1)) in
     one_more words (text_of w.scoping x) true n i w q refl (subst (λ (o : Option ℕ). RoomIn true o (count (given i))) (sym m.1) (fits, m.3)) a
+array_start words x e (Some c) i w k a h =
+    let v = after_length noted e w in
+    let z = after_columns noted x.at (Some c) v in
+    let fs = braces true i x.at ++ misfit (length_in (evaluated w e)) i in
+    let y = after_object_name noted words.typing (static_at words true w) x z in
+    let fy = none_found y.found fs ((later_numbers (given i) (failing noted fs y)).found h) in
+    absurd (no_columns x.at c v (none_found z.found (at_name z.scoping words.typing x) fy.0).0)
+
+static_start : (words : Words) (x : Identifier) (e : Option DimensionsTree) (i : Option InitializerTree) (w : W) → Known w.scoping → AreStarts w.statics.made
+    → (let d : DeclaratorTree = record { name = x; dimensions = e; initializer = i } in (after_static noted words d w).found ≡ None → AreStarts (after_static noted words d w).statics.made)
+unfolding after_static
+static_start words x None i w k a h =
+    let d : DeclaratorTree = record { name = x; dimensions = None; initializer = i } in
+    one_more words (text_of w.scoping x) false None i w (after_static_head noted words d w) refl tt a
+static_start words x (Some e) i w k a h = array_start words x e.length e.columns i w k a h
 
 statics_start : (words : Words) (ds : List DeclaratorTree) (w : W) → is_unknown words.typing ≡ false → Known w.scoping → AreStarts w.statics.made
     → (after_statics noted words ds w).found ≡ None → AreStarts (after_statics noted words ds w).statics.made
@@ -142,7 +159,7 @@ statics_start words [] w u k a h = a
 statics_start words (d ∷ ds) w u k a h =
     let v = after_static noted words d w in
     let hv : v.found ≡ None = (later_statics words ds v).found h in
-    statics_start words ds v u (static_known words d w u k hv) (static_start words d.name d.length d.initializer w k a hv) h
+    statics_start words ds v u (static_known words d w u k hv) (static_start words d.name d.dimensions d.initializer w k a hv) h
 
 static_declaration_start : (d : DeclarationTree) (w : W) → Known w.scoping → AreStarts w.statics.made → (after_static_declaration noted d w).found ≡ None → AreStarts (after_static_declaration noted d w).statics.made
 unfolding after_static_declaration

@@ -23,7 +23,7 @@ use Rattle.pk_type_scope.specs.Scopes.{names_in, spelled}
 use Rattle.pk_type_scope.specs.Specifiers.{type_named, word_failures}
 use Rattle.pk_type_expression.proofs.TreeLemmas.{none_before, none_after, holds_not, types_are, known_type}
 use Rattle.pk_type_declaration.specs.declared.words.Words.{Words}
-use Rattle.pk_type_declaration.specs.Declarations.{at_name, words_of, text_of, integer_in, redeclared, void_object, special_object, braces, surplus, length_at, after_optional_length}
+use Rattle.pk_type_declaration.specs.Declarations.{at_name, words_of, text_of, integer_in, redeclared, void_object, special_object, braces, misfit, length_at, after_dimensions}
 use Rattle.pk_ctypes.specs.Spellings.{lookup}
 use Rattle.pk_type_declaration.specs.Enumerations.{words_at, after_words}
 use Rattle.pk_type_declaration.specs.Specials.{special, specials}
@@ -32,14 +32,14 @@ use Rattle.pk_type_jump.specs.Jumps.{around_body, nothing_jumped, jumps_of}
 use Rattle.pk_type_jump.specs.Labels.{nothing_listed, outermost, labels_of}
 use Rattle.pk_type_statement.specs.Statements.{after_items}
 use Rattle.pk_type_statement.specs.Trees.{typed_items}
-use Rattle.pk_type_declaration.specs.Starts.{given}
+use Rattle.pk_type_declaration.specs.Initializers.{given}
 use Rattle.pk_type.specs.Files.{EntryTree, extern_object, file_object, after_object, after_objects, after_declaration, on}
 use Rattle.pk_type.specs.Files as files
 use Rattle.pk_type.specs.Functions.{after_parameter_name, after_parameter, after_parameters, is_redeclared, is_misused, number_of, callee_of, after_head, each_at, about_jumps, before_body, after_body, body_of, body_at, with_body, after_optional_body, after_function}
 use Rattle.pk_type.specs.Signatures.{SignatureTree, signature_of}
 use Rattle.pk_type.specs.TypeNames.{named_type, after_type_name, after_type_names, after_typedef}
 use Rattle.pk_type.specs.Units.{no_name, defined_in, objects_in, checked, after_external, after_externals, nothing_filed}
-use Rattle.pk_type_laws.proofs.Accepted.Declarations.{later_optional_length}
+use Rattle.pk_type_laws.proofs.Accepted.Declarations.{later_dimensions}
 use Rattle.pk_type_laws.proofs.Accepted.Files.{F}
 use Rattle.pk_type_laws.proofs.Accepted.Functions.{later_parameters, later_body}
 use Rattle.pk_type_laws.proofs.Accepted.Units.{new_entries, updated, externals_later, texts_are_well_typed}
@@ -50,8 +50,8 @@ use Rattle.pk_type_laws.proofs.Accepted.TypeNames.{type_words}
 use Rattle.pk_type_laws.proofs.Accepted.Walks.{W, none_found}
 use Rattle.pk_type_laws.specs.Accepted.Laws.{AcceptedUnitsAreWellTyped}
 use Rattle.pk_type_laws.specs.Bodies.Laws.{FunctionsHaveBodies}
-use Rattle.pk_type_laws.proofs.Bodies.Parts.{mapped_there, Known, known_declaring, known_opened, object_known, length_scope}
-use Rattle.pk_type_laws.proofs.Bodies.Starts.{AreStarts, no_starts, starts_together, items_start, length_statics, parameters_statics, typedef_statics}
+use Rattle.pk_type_laws.proofs.Bodies.Parts.{mapped_there, Known, known_declaring, known_opened, object_known, dimensions_scope}
+use Rattle.pk_type_laws.proofs.Bodies.Starts.{AreStarts, no_starts, starts_together, items_start, dimensions_statics, parameters_statics, typedef_statics}
 use Rattle.pk_type_laws.proofs.Bodies.Statements.{items_there}
 
 -- ---- objects of the file
@@ -62,10 +62,10 @@ object_before storage words d f h = (later_numbers (given d.initializer) (files.
 
 head_before : (storage : Option Storage) (words : Words) (d : DeclaratorTree) (f : F) → (files.after_head noted storage words d f).found ≡ None → f.walked.found ≡ None
 head_before storage words d f h =
-    let v = after_optional_length noted d.length f.walked in
+    let v = after_dimensions noted d.name.at d.dimensions f.walked in
     let rows = redeclared v.scoping d.name ++ extern_object storage d.name ++ void_object words.typing d.name.at ++ special_object v.scoping d.name in
     let x = failing noted rows v in
-    (later_optional_length d.length f.walked).found (none_found v.found rows (none_found x.found (braces (is_some d.length) d.initializer d.name.at ++ surplus (length_at f.walked d.length) d.initializer) h).0).0
+    (later_dimensions d.name.at d.dimensions f.walked).found (none_found v.found rows (none_found x.found (braces (is_some d.dimensions) d.initializer d.name.at ++ misfit (length_at f.walked d.dimensions) d.initializer) h).0).0
 
 objects_before : (storage : Option Storage) (words : Words) (ds : List DeclaratorTree) (f : F) → (after_objects noted storage words ds f).walked.found ≡ None → f.walked.found ≡ None
 unfolding after_objects
@@ -82,17 +82,17 @@ object_is_known : (storage : Option Storage) (words : Words) (d : DeclaratorTree
     → Known (after_object noted storage words d f).walked.scoping
 unfolding after_object
 object_is_known storage words d f u k h =
-    let v = after_optional_length noted d.length f.walked in
+    let v = after_dimensions noted d.name.at d.dimensions f.walked in
     let first = redeclared v.scoping d.name ++ extern_object storage d.name in
     let rows = redeclared v.scoping d.name ++ extern_object storage d.name ++ void_object words.typing d.name.at ++ special_object v.scoping d.name in
     let x = failing noted rows v in
-    let fs = braces (is_some d.length) d.initializer d.name.at ++ surplus (length_at f.walked d.length) d.initializer in
+    let fs = braces (is_some d.dimensions) d.initializer d.name.at ++ misfit (length_at f.walked d.dimensions) d.initializer in
     let w = files.after_head noted storage words d f in
     let hw : w.found ≡ None = (later_numbers (given d.initializer) w).found h in
     let none : rows ≡ [] = (none_found v.found rows (none_found x.found fs hw).0).1 in
     let void : is_void words.typing ≡ false = holds_not _ _ _ (none_after first (void_object words.typing d.name.at) (none_before (first ++ void_object words.typing d.name.at) (special_object v.scoping d.name) none)) in
-    let kv : Known v.scoping = subst Known (sym (length_scope d.length f.walked)) k in
-    let o = file_object words (is_some d.length) f in
+    let kv : Known v.scoping = subst Known (sym (dimensions_scope d.name.at d.dimensions f.walked)) k in
+    let o = file_object words (is_some d.dimensions) f in
     subst Known (sym (same_scope (given d.initializer) w)) (known_declaring v.scoping d.name o kv (integer_has words.typing u void))
 
 objects_known : (storage : Option Storage) (words : Words) (ds : List DeclaratorTree) (f : F) → is_unknown words.typing ≡ false → Known f.walked.scoping → (after_objects noted storage words ds f).walked.found ≡ None
@@ -124,7 +124,7 @@ file_objects_statics : (storage : Option Storage) (words : Words) (ds : List Dec
 unfolding after_objects after_object
 file_objects_statics storage words [] f = refl
 file_objects_statics storage words (d ∷ ds) f =
-    file_objects_statics storage words ds (after_object noted storage words d f) ∙ (same_statics (given d.initializer) (files.after_head noted storage words d f) ∙ length_statics d.length f.walked)
+    file_objects_statics storage words ds (after_object noted storage words d f) ∙ (same_statics (given d.initializer) (files.after_head noted storage words d f) ∙ dimensions_statics d.name.at d.dimensions f.walked)
 
 file_declaration_statics : (storage : Option Storage) (d : DeclarationTree) (f : F) → (after_declaration noted storage d f).walked.statics ≡ f.walked.statics
 unfolding after_declaration

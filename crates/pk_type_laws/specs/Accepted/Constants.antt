@@ -2,13 +2,14 @@
 use Rattle.std.specs.Prelude.{pos, List, [], ◌∷◌, Option, Some, None}
 use Rattle.pk_ctypes.specs.declared.types.IntType.TheVariants.{Int}
 use Rattle.pk_ctypes.specs.Types.{InType}
-use Rattle.pk_ast.specs.Trees.{ExpressionTree, name, call, index, constant, character, parenthesized, postfix, prefix, unary, cast, binary, conditional, assignment, comma, ExpressionTrees, no_expressions, expression_then, InitializerTree, single, braced, DeclaratorTree, DeclarationTree, ForStartTree, declaration, expression, StatementTree, block, empty, expression_statement, label, case, default, if_then, if_else, switch, while, do_while, for_loop, goto, continue, break, return, ItemTrees, no_items, declaration_then, statement_then, BlockTree, ExternalTree, function, objects, type_names}
+use Rattle.pk_ast.specs.Trees.{ExpressionTree, name, call, index, element, constant, character, parenthesized, postfix, prefix, unary, cast, binary, conditional, assignment, comma, ExpressionTrees, no_expressions, expression_then, InitializerItemTree, item_value, item_row, InitializerTree, single, braced, DimensionsTree, DeclaratorTree, DeclarationTree, ForStartTree, declaration, expression, StatementTree, block, empty, expression_statement, label, case, default, if_then, if_else, switch, while, do_while, for_loop, goto, continue, break, return, ItemTrees, no_items, declaration_then, statement_then, BlockTree, ExternalTree, function, objects, type_names}
 
 unfoldable mutual
   pub HasConstants : ExpressionTree → Type 0
   HasConstants (name x) = Unit {0}
   HasConstants (call x es) = HaveConstants es
   HasConstants (index x at e) = HasConstants e
+  HasConstants (element x at e column_at c) = HasConstants e × HasConstants c
   HasConstants (constant at t n) = InType t (pos n)
   HasConstants (character at n) = InType Int n
   HasConstants (parenthesized at e) = HasConstants e
@@ -29,13 +30,25 @@ abbrev pub HasConstantsIf : Option ExpressionTree → Type 0
 HasConstantsIf None = Unit {0}
 HasConstantsIf (Some e) = HasConstants e
 
+abbrev pub InitializerItemHas : InitializerItemTree → Type 0
+InitializerItemHas (item_value e) = HasConstants e
+InitializerItemHas (item_row at e es) = HasConstants e × HaveConstants es
+
+abbrev pub InitializerItemsHave : List InitializerItemTree → Type 0
+InitializerItemsHave [] = Unit {0}
+InitializerItemsHave (i ∷ is) = InitializerItemHas i × InitializerItemsHave is
+
 abbrev pub InitializerHas : Option InitializerTree → Type 0
 InitializerHas None = Unit {0}
 InitializerHas (Some (single e)) = HasConstants e
-InitializerHas (Some (braced at e es)) = HasConstants e × HaveConstants es
+InitializerHas (Some (braced at is)) = InitializerItemHas is.first × InitializerItemsHave is.more
+
+abbrev pub DimensionsHave : Option DimensionsTree → Type 0
+DimensionsHave None = Unit {0}
+DimensionsHave (Some d) = HasConstants d.length × HasConstantsIf d.columns
 
 abbrev pub DeclaratorHas : DeclaratorTree → Type 0
-DeclaratorHas d = HasConstantsIf d.length × InitializerHas d.initializer
+DeclaratorHas d = DimensionsHave d.dimensions × InitializerHas d.initializer
 
 abbrev pub DeclaratorsHave : List DeclaratorTree → Type 0
 DeclaratorsHave [] = Unit {0}
