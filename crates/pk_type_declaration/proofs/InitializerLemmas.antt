@@ -13,16 +13,14 @@ use Rattle.pk_type_scope.proofs.FailureLemmas.{noted_append}
 use Rattle.pk_type_expression.specs.Forms.{append_values}
 use Rattle.pk_type_expression.specs.Rules.{failures, void, used_failures, failures_used}
 use Rattle.pk_type_expression.specs.Typed.{of_both, value_of, typed, typed_all, calls, calls_in_all}
-use Rattle.pk_type_expression.proofs.ListLemmas.{append_values_none, append_values_assoc}
+use Rattle.pk_type_expression.proofs.ListLemmas.{append_values_assoc}
+use Rattle.pk_type_expression.proofs.WalkLemmas.{appended, end_values}
 use Rattle.pk_type_declaration.specs.Initializers.{followed_by, item_values, items_values}
 use Rattle.pk_type_declaration.specs.Parts.{joined}
 use Rattle.pk_type_declaration.specs.Walks.{Walked, here, after_value, after_values, value_at, values_at}
 
 abbrev State : Type 0
 State = Walked (Option Failure)
-
-abbrev pub appended : Option ValueTrees → Option ValueTrees → Option ValueTrees
-appended vs ws = of_both append_values vs ws
 
 -- what is found, called and typed in expressions, and in others behind them
 pub failures_followed : (d : Names) (es fs : ExpressionTrees) → failures_used d (followed_by es fs) ≡ failures_used d es ++ failures_used d fs
@@ -40,10 +38,6 @@ calls_followed d (expression_then e es) fs =
 appended_before : (ws : Option ValueTrees) → ws ≡ appended (Some no_values) ws
 appended_before None = refl
 appended_before (Some ws) = refl
-
-appended_none : (vs : Option ValueTrees) → appended vs (Some no_values) ≡ vs
-appended_none None = refl
-appended_none (Some vs) = ap Some (append_values_none vs)
 
 appended_assoc : (a b c : Option ValueTrees) → appended (appended a b) c ≡ appended a (appended b c)
 appended_assoc None b c = refl
@@ -143,12 +137,8 @@ items_typed i now rest w v vs is us all p q r s h =
     ∙ (ap (appended vs) (sym (values_followed (item_values i) (items_values rest) w))
     ∙ (ap (λ x. appended vs (values_at w (items_values x))) (sym p) ∙ h))))
 
-pub items_begun : (vs ws : Option ValueTrees) → vs ≡ Some no_values → appended vs ws ≡ ws
-items_begun vs ws h = ap (λ x. appended x ws) h ∙ sym (appended_before ws)
-
 pub items_done : (now : List InitializerItemTree) (w : State) (vs all : Option ValueTrees) → now ≡ [] → appended vs (values_at w (items_values now)) ≡ all → vs ≡ all
-unfolding typed_all
-items_done now w vs all p h = sym (appended_none vs) ∙ (ap (λ x. appended vs (values_at w (items_values x))) (sym p) ∙ h)
+items_done now w vs all p h = end_values (here w) (length w.calls) (items_values now) vs all (ap items_values p) h
 
 -- the first item, then the others
 pub all_walked : (i : InitializerItemTree) (is : List InitializerItemTree) (w v u : State) → v ≡ after_values noted (item_values i) w → u ≡ after_values noted (items_values is) v → u ≡ after_values noted (items_values (i ∷ is)) w

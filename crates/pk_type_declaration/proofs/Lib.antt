@@ -1,5 +1,5 @@
 pub mod ListLemmas
-pub mod InitializerLemmas
+mod InitializerLemmas
 pub mod ItemLemmas
 pub mod PartLemmas
 pub mod DeclaratorLemmas

@@ -23,7 +23,8 @@ static_at words is_array w = declared.Object (object_of words is_array (File (ne
 -- a declarator as far as what its name begins with
 abbrev pub after_static_head : {F : Type 0} → Adding F → Words → DeclaratorTree → Walked F → Walked F
 after_static_head add words d w =
-    failing add (braces (is_some d.dimensions) d.initializer d.name.at ++ misfit (length_at w d.dimensions) d.initializer)
+    failing add (braces (is_some d.dimensions) d.initializer d.name.at
+    ++ misfit (length_at w d.dimensions) d.initializer)
     (after_object_name add words.typing (static_at words (is_some d.dimensions) w) d.name
     (after_dimensions add d.name.at d.dimensions w))
 

@@ -119,8 +119,8 @@ fn items(
 ) -> Result<(), AllocError>
     ensures walked { OnOk result (walked_in walk.new
         ≡ definitions.after_numbers noted (items_values (initializer_item_trees list.now)) (walked_in walk.old)) }
-    ensures numbers { OnOk result (all.new.items ≡ all.old.items
-        ++ definitions.numbers_at noted int_type (items_values (initializer_item_trees list.now)) (walked_in walk.old)) }
+    ensures numbers { OnOk result (all.new.items ≡ all.old.items ++ definitions.numbers_at noted int_type
+        (items_values (initializer_item_trees list.now)) (walked_in walk.old)) }
 {
     for i in list {
         item(walk, alloc, int_type, i, all)?;

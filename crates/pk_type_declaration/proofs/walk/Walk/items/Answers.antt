@@ -1,12 +1,13 @@
 use Rattle.std.proofs.Common.{refl, ap, Some}
 use Rattle.pk_typed.specs.Views.{value_trees}
+use Rattle.pk_type_expression.proofs.WalkLemmas.{begin_values}
 use Rattle.pk_type_declaration.specs.Views.{walked_in}
 use Rattle.pk_type_declaration.proofs.ItemLemmas.{next_item, last_item}
-use Rattle.pk_type_declaration.proofs.InitializerLemmas.{trees_together, items_walked, items_ended, items_typed, items_begun, items_done}
+use Rattle.pk_type_declaration.proofs.InitializerLemmas.{trees_together, items_walked, items_ended, items_typed, items_done}
 use Rattle.pk_type_declaration.proofs.walk.Walk.items.Goals as goal
 
 pub loop-item-init : goal.loop-item-init
-loop-item-init c = record { walked = refl; values = items_begun _ _ (ap (λ xs. Some (value_trees xs)) c.new.ensures.items) }
+loop-item-init c = record { walked = refl; values = begin_values _ _ (ap (λ xs. Some (value_trees xs)) c.new.ensures.items) }
 
 pub loop-item-preserved : goal.loop-item-preserved
 loop-item-preserved c =

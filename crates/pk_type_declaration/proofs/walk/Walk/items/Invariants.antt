@@ -6,7 +6,7 @@ use Rattle.pk_type_scope.specs.Failures.{noted}
 use Rattle.pk_type_declaration.specs.Initializers.{items_values}
 use Rattle.pk_type_declaration.specs.Views.{walked_in}
 use Rattle.pk_type_declaration.specs.Walks.{after_values, values_at}
-use Rattle.pk_type_declaration.proofs.InitializerLemmas.{appended}
+use Rattle.pk_type_expression.proofs.WalkLemmas.{appended}
 use Rattle.pk_type_declaration.proofs.walk.Walk.items.Given as goal
 
 abbrev pub invariant-loop-item : goal.invariant-loop-item
