@@ -13,7 +13,7 @@ use Rattle.pk_type_scope.specs.Declarations.{is_void}
 use Rattle.pk_type_scope.specs.Failures.{noted, fails_if}
 use Rattle.pk_type_scope.specs.Scopes.{declared_here, spelled}
 use Rattle.pk_type_declaration.specs.declared.words.Words.{Words}
-use Rattle.pk_type_declaration.specs.Declarations.{after_optional_length, length_at, braces, surplus}
+use Rattle.pk_type_declaration.specs.Declarations.{after_dimensions, length_at, braces, misfit}
 use Rattle.pk_type_declaration.specs.Enumerations.{words_at, after_words}
 use Rattle.pk_type_declaration.specs.Specials.{special}
 use Rattle.pk_type_declaration.specs.Walks.{Walked, here, failing, after_name}
@@ -47,26 +47,26 @@ declaration_step storage d words ds f a c g p q r t u =
 
 -- a declarator as far as what its name begins with, step by step
 pub head_walked : (storage : Option Storage) (words : Words) (d : DeclaratorTree) (f : Files) (len : Option ℕ) (o : Declaration) (is_array again ext void odd : Bool) (a b c e g : State) →
-    a ≡ after_optional_length noted d.length f.walked → is_array ≡ is_some d.length → len ≡ length_at f.walked d.length → o ≡ file_object words is_array f → again ≡ is_some (declared_here a.scoping d.name) → b ≡ after_name d.name o a →
+    a ≡ after_dimensions noted d.name.at d.dimensions f.walked → is_array ≡ is_some d.dimensions → len ≡ length_at f.walked d.dimensions → o ≡ file_object words is_array f → again ≡ is_some (declared_here a.scoping d.name) → b ≡ after_name d.name o a →
     ext ≡ is_extern storage → void ≡ is_void words.typing → odd ≡ is_some (special (spelled a.scoping.text d.name)) →
     c ≡ failing noted (fails_if again rule.Redeclared d.name.at ++ fails_if ext rule.Extern d.name.at ++ fails_if void rule.Void d.name.at ++ fails_if odd rule.Special d.name.at) b →
-    e ≡ failing noted (braces is_array d.initializer d.name.at) c → g ≡ failing noted (surplus len d.initializer) e → g ≡ after_head noted storage words d f
+    e ≡ failing noted (braces is_array d.initializer d.name.at) c → g ≡ failing noted (misfit len d.initializer) e → g ≡ after_head noted storage words d f
 head_walked storage words d f len o is_array again ext void odd a b c e g ha hi hl ho hr hb hx hv hs hc he hg =
     let x = d.name in
-    let w : State = after_optional_length noted d.length f.walked in
+    let w : State = after_dimensions noted d.name.at d.dimensions f.walked in
     let rows : Bool → Bool → Bool → Bool → List Failure = λ k l m n. fails_if k rule.Redeclared x.at ++ fails_if l rule.Extern x.at ++ fails_if m rule.Void x.at ++ fails_if n rule.Special x.at in
     let all : List Failure = rows (is_some (declared_here w.scoping x)) (is_extern storage) (is_void words.typing) (is_some (special (spelled w.scoping.text x))) in
-    let made : State → State = λ s. failing noted (rows (is_some (declared_here s.scoping x)) (is_extern storage) (is_void words.typing) (is_some (special (spelled s.scoping.text x)))) (after_name x (file_object words (is_some d.length) f) s) in
+    let made : State → State = λ s. failing noted (rows (is_some (declared_here s.scoping x)) (is_extern storage) (is_void words.typing) (is_some (special (spelled s.scoping.text x)))) (after_name x (file_object words (is_some d.dimensions) f) s) in
     let step : c ≡ made w =
     hc ∙ (ap (failing noted (rows again ext void odd)) (hb ∙ ap (λ y. after_name x y a) (ho ∙ ap (λ i. file_object words i f) hi))
-    ∙ (ap (λ k. failing noted (rows k ext void odd) (after_name x (file_object words (is_some d.length) f) a)) hr
-    ∙ (ap (λ k. failing noted (rows (is_some (declared_here a.scoping x)) k void odd) (after_name x (file_object words (is_some d.length) f) a)) hx
-    ∙ (ap (λ k. failing noted (rows (is_some (declared_here a.scoping x)) (is_extern storage) k odd) (after_name x (file_object words (is_some d.length) f) a)) hv
-    ∙ (ap (λ k. failing noted (rows (is_some (declared_here a.scoping x)) (is_extern storage) (is_void words.typing) k) (after_name x (file_object words (is_some d.length) f) a)) hs
+    ∙ (ap (λ k. failing noted (rows k ext void odd) (after_name x (file_object words (is_some d.dimensions) f) a)) hr
+    ∙ (ap (λ k. failing noted (rows (is_some (declared_here a.scoping x)) k void odd) (after_name x (file_object words (is_some d.dimensions) f) a)) hx
+    ∙ (ap (λ k. failing noted (rows (is_some (declared_here a.scoping x)) (is_extern storage) k odd) (after_name x (file_object words (is_some d.dimensions) f) a)) hv
+    ∙ (ap (λ k. failing noted (rows (is_some (declared_here a.scoping x)) (is_extern storage) (is_void words.typing) k) (after_name x (file_object words (is_some d.dimensions) f) a)) hs
     ∙ ap made ha))))) in
-    hg ∙ (ap (λ n. failing noted (surplus n d.initializer) e) hl
-    ∙ (ap (failing noted (surplus (length_at f.walked d.length) d.initializer)) (he ∙ (ap (λ i. failing noted (braces i d.initializer x.at) c) hi ∙ ap (failing noted (braces (is_some d.length) d.initializer x.at)) step))
-    ∙ sym (failing_twice (braces (is_some d.length) d.initializer x.at) (surplus (length_at f.walked d.length) d.initializer) (made w))))
+    hg ∙ (ap (λ n. failing noted (misfit n d.initializer) e) hl
+    ∙ (ap (failing noted (misfit (length_at f.walked d.dimensions) d.initializer)) (he ∙ (ap (λ i. failing noted (braces i d.initializer x.at) c) hi ∙ ap (failing noted (braces (is_some d.dimensions) d.initializer x.at)) step))
+    ∙ sym (failing_twice (braces (is_some d.dimensions) d.initializer x.at) (misfit (length_at f.walked d.dimensions) d.initializer) (made w))))
 
 pub is_some_map : {A B : Type 0} (f : A → B) (x : Option A) → is_some (option_map f x) ≡ is_some x
 is_some_map f None = refl

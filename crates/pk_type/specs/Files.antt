@@ -12,9 +12,10 @@ use Rattle.pk_type_scope.specs.declared.declarations.Declaration.TheVariants as 
 use Rattle.pk_type_scope.specs.declared.failures.Failure.{Failure}
 use Rattle.pk_type_scope.specs.Failures.{fails_if}
 use Rattle.pk_type_declaration.specs.declared.words.Words.{Words}
-use Rattle.pk_type_declaration.specs.Declarations.{type_or_int, object_of, text_of, redeclared, void_object, special_object, braces, surplus, length_at, after_optional_length, length_or_1}
+use Rattle.pk_type_declaration.specs.Declarations.{type_or_int, object_of, text_of, redeclared, void_object, special_object, braces, misfit, length_at, after_dimensions, length_or_1}
 use Rattle.pk_type_declaration.specs.Enumerations.{words_at, after_words}
-use Rattle.pk_type_declaration.specs.Starts.{after_numbers, given, start_at}
+use Rattle.pk_type_declaration.specs.Initializers.{given}
+use Rattle.pk_type_declaration.specs.Starts.{after_numbers, start_at}
 use Rattle.pk_type_declaration.specs.Walks.{Walked, Adding, here, failing, after_name}
 use Rattle.pk_type.specs.Signatures.{SignatureTree}
 
@@ -44,12 +45,12 @@ file_object words is_array f = declared.Object (object_of words is_array (File (
 -- a declarator as far as what its name begins with
 abbrev pub after_head : {F : Type 0} → Adding F → Option Storage → Words → DeclaratorTree → Filed F → Walked F
 after_head add storage words d f =
-    let w = after_optional_length add d.length f.walked in
+    let w = after_dimensions add d.name.at d.dimensions f.walked in
     let rows = redeclared w.scoping d.name ++ extern_object storage d.name ++ void_object words.typing d.name.at
     ++ special_object w.scoping d.name in
-    failing add (braces (is_some d.length) d.initializer d.name.at
-    ++ surplus (length_at f.walked d.length) d.initializer)
-    (after_name d.name (file_object words (is_some d.length) f) (failing add rows w))
+    failing add (braces (is_some d.dimensions) d.initializer d.name.at
+    ++ misfit (length_at f.walked d.dimensions) d.initializer)
+    (after_name d.name (file_object words (is_some d.dimensions) f) (failing add rows w))
 
 unfoldable pub after_object : {F : Type 0} → Adding F → Option Storage → Words → DeclaratorTree → Filed F → Filed F
 after_object add storage words d f =
@@ -60,7 +61,7 @@ after_object add storage words d f =
       objects = f.objects ++ record {
         name = text_of f.walked.scoping d.name;
         int_type = t;
-        start = start_at add t (length_or_1 (is_some d.length) (length_at f.walked d.length)) d.initializer w;
+        start = start_at add t (length_or_1 (is_some d.dimensions) (length_at f.walked d.dimensions)) d.initializer w;
       } ∷ [];
       functions = f.functions;
     }

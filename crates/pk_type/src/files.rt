@@ -19,7 +19,7 @@ use pk_ast::{
 };
 use pk_ctypes::{Name, Pos, Rule};
 use pk_type_declaration::{
-    Statics, Walk, Words, integer_in, length_or_1, note_braces, note_surplus, special, type_or_int,
+    Statics, Walk, Words, integer_in, length_or_1, note_braces, note_misfit, special, type_or_int,
 };
 use pk_type_scope::{Declaration, Notes, Object, Scope, spelling};
 use pk_type_statement::Statements;
@@ -125,12 +125,12 @@ impl<'a> File<'a> {
         ensures objects { self.new.objects ≡ self.old.objects }
         ensures functions { self.new.functions ≡ self.old.functions }
         ensures length { IfOk result (λ n. n
-            ≡ length_or_1 (is_some (declarator_tree d.now).length)
-            (length_at (filed_in self.old).walked (declarator_tree d.now).length)) }
+            ≡ length_or_1 (is_some (declarator_tree d.now).dimensions)
+            (length_at (filed_in self.old).walked (declarator_tree d.now).dimensions)) }
     {
-        let is_array = d.length.is_some();
+        let is_array = d.dimensions.is_some();
         let object = self.object_of(words, is_array);
-        let length = self.to.walk.optional_length(alloc, &d.length)?;
+        let length = self.to.walk.dimensions(alloc, d.name.at, &d.dimensions)?;
         let is_special = special(spelling(self.to.walk.scope.text, d.name)).is_some();
         let is_again = self.to.walk.declare(d.name, object)?;
         note_rows(
@@ -142,7 +142,7 @@ impl<'a> File<'a> {
             d.name.at,
         );
         note_braces(&mut self.to.walk, is_array, &d.initializer, d.name.at);
-        note_surplus(&mut self.to.walk, length, &d.initializer);
+        note_misfit(&mut self.to.walk, length, &d.initializer);
         Ok(length_or_1(is_array, length))
     }
 
