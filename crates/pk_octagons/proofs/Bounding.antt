@@ -1,6 +1,6 @@
 -- Values bounded by octagons, one after another.
 use Rattle.std.specs.Prelude.{◌≡◌, ◌≢◌, ◌⊎◌, ℕ, zero, suc, ◌+◌, ◌-◌, ◌*◌, ◌<◌, ◌≤◌, Bool, true, false, if◌then◌else◌, ℤ, ◌≤ℤ◌, int_le, List, [], ◌∷◌, ◌++◌, length, Option, Some, None}
-use Rattle.std.proofs.Common.{◌∙◌, ap, refl, sym, subst, arith, inl, inr, set, drop, get_or, length-set}
+use Rattle.std.proofs.Common.{◌∙◌, ap, refl, sym, subst, arith, inl, inr, set, drop, length-set}
 use Rattle.std.proofs.lemmas.Int.{ints, clamps}
 use Rattle.std.proofs.Math.ListN.{drop_of_length-le}
 use Rattle.std.proofs.lemmas.Bool.{cases_eq}
@@ -16,7 +16,7 @@ use Rattle.pk_octagons.specs.Packs.{chosen_at, pack_at}
 use Rattle.pk_octagons.specs.Values.{type_at, known_at, IsValue, AreValues, IsListed, AreMarked}
 use Rattle.pk_octagons.specs.Octagons.{octagon_at, no_octagon}
 use Rattle.pk_octagons.specs.Changes.{then_with}
-use Rattle.pk_octagons.specs.Reduced.{with_range, raised_low, lowered_high, bounded_by, bounded_at, bounded_all, bounded_values, kept_if, BoundsNone, BoundNone}
+use Rattle.pk_octagons.specs.Reduced.{with_range, raised_low, lowered_high, bounded_by, bounded_at, bounded_all, bounded_values}
 use Rattle.pk_octagons.proofs.Lists.{known_same, known_other}
 
 pub low_rises : (b : Option ℤ) (lo : ℤ) → lo ≤ℤ raised_low b lo

@@ -1,5 +1,5 @@
 -- The least bound of all octagons.
-use Rattle.std.specs.Prelude.{◌≡◌, ℕ, suc, ◌+◌, ◌/◌, Bool, true, false, if◌then◌else◌, ℤ, int_lt, List, [], ◌∷◌, ◌++◌, length, option_map, Option, Some, None}
+use Rattle.std.specs.Prelude.{◌≡◌, ℕ, ◌+◌, ◌/◌, Bool, true, false, if◌then◌else◌, ℤ, int_lt, List, [], ◌∷◌, ◌++◌, length, option_map, Option, Some, None}
 use Rattle.std.specs.Int.{int_min}
 use Rattle.std.proofs.Common.{◌∙◌, ap, refl, sym, arith}
 use Rattle.std.proofs.lemmas.Int.{ints, clamps}

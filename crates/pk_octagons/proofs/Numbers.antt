@@ -14,7 +14,7 @@ use Rattle.pk_octagons.specs.Packs.{chosen_at, IsPack, ArePacks}
 use Rattle.pk_octagons.specs.Values.{known_at}
 use Rattle.pk_octagons.specs.Changes.{then_with}
 use Rattle.pk_octagons.specs.Reduced.{with_range, raised_low, lowered_high, bounded_by, bounded_at, bounded_all, bounded_values}
-use Rattle.pk_octagons.specs.Members.{selected, MeetAll, IsChosen, ArePossible, KeepsNumbers, ReductionsAreExact}
+use Rattle.pk_octagons.specs.Members.{selected, MeetAll, ArePossible, KeepsNumbers, ReductionsAreExact}
 use Rattle.pk_octagons.proofs.Lists.{known_same, known_other}
 use Rattle.pk_octagons.proofs.Bounding.{low_rises, high_falls}
 use Rattle.pk_octagons.proofs.Sound.{selected_is, closings_keep, closings_only}

@@ -8,10 +8,10 @@ use Rattle.pk_octclose.specs.Places.{closing_of}
 use Rattle.pk_octops.specs.Assigns.{assignment_of}
 use Rattle.pk_octops.specs.Guards.{guard_of}
 use Rattle.pk_octops.specs.Tables.{IsBelow}
-use Rattle.pk_octagons.specs.Packs.{place_in, side_in}
+use Rattle.pk_octagons.specs.Packs.{side_in}
 use Rattle.pk_octagons.specs.Octagons.{octagon_at, AreOctagons, AreBelow}
 use Rattle.pk_octagons.specs.Changes.{then_with, or_else, changed_at, guarded_octagons, bound_in}
-use Rattle.pk_octagons.specs.Reduced.{by_ranges, with_first, closed_in, closed_octagons, bounded_all, bounded_values, AreResting, BoundNone}
+use Rattle.pk_octagons.specs.Reduced.{by_ranges, with_first, closed_octagons, bounded_all, bounded_values, AreResting, BoundNone}
 use Rattle.pk_octagons.specs.Laws.{RestingStay, OneIsItself}
 use Rattle.pk_octagons.proofs.Resting.{resting_closed, none_bounds}
 use Rattle.pk_octagons.proofs.Sound.{first_of, no_octagons, no_packs}

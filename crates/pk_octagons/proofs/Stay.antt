@@ -1,5 +1,5 @@
 -- What is made of octagons is octagons of the packs.
-use Rattle.std.specs.Prelude.{◌≡◌, ◌≢◌, ℕ, zero, suc, ◌+◌, ◌*◌, ◌/◌, ◌<◌, ◌^◌, ℤ, pos, int_lt, Bool, true, false, if◌then◌else◌, List, [], ◌∷◌, length, map, Option, Some, None, option_map}
+use Rattle.std.specs.Prelude.{◌≡◌, ◌≢◌, ℕ, ◌+◌, ◌*◌, ◌/◌, ◌<◌, ℤ, pos, int_lt, Bool, true, false, if◌then◌else◌, List, [], ◌∷◌, length, map, Option, Some, None, option_map}
 use Rattle.std.proofs.Common.{◌∙◌, ap, refl, sym, subst, arith}
 use Rattle.std.proofs.lemmas.List.Elements.{All-nil, All-cons, All-head, All-tail}
 use Rattle.pk_value.specs.Known.{Known}
@@ -7,7 +7,6 @@ use Rattle.pk_blocks.specs.Rows.{merged_from}
 use Rattle.pk_octmat.specs.Octagon.{Octagon, bar, octagon_of, top_bound, IsOctagon}
 use Rattle.pk_octmat.proofs.Matrices.{top_same, top_turned, top_near}
 use Rattle.pk_octmat.proofs.Tabled.{octagon_from}
-use Rattle.pk_octclose.specs.Places.{closing_of}
 use Rattle.pk_octclose.proofs.Floyd.{closing_right}
 use Rattle.pk_octops.specs.Assigns.{assignment_of}
 use Rattle.pk_octops.specs.Guards.{IsGuard, guard_of}
@@ -15,8 +14,8 @@ use Rattle.pk_octops.specs.Laws.{IsTerm}
 use Rattle.pk_octops.specs.Tables.{join_of, widening_of, narrowing_of}
 use Rattle.pk_octops.proofs.Kept.{values_kept}
 use Rattle.pk_octagons.specs.Packs.{place_in, IsPack, ArePacks, side_of, side_in}
-use Rattle.pk_octagons.specs.Octagons.{AreOctagons, top_octagons, joined_octagons, widened_octagons, narrowed_octagons}
-use Rattle.pk_octagons.specs.Changes.{then_with, or_else, each_changed, changed_at, assigned_in, bounded_in, related_in, AreTerms, assigned_octagons, guarded_octagons}
+use Rattle.pk_octagons.specs.Octagons.{AreOctagons, top_octagons}
+use Rattle.pk_octagons.specs.Changes.{then_with, or_else, each_changed, changed_at, assigned_in, bounded_in, related_in, AreTerms, guarded_octagons}
 use Rattle.pk_octagons.specs.Reduced.{by_ranges, closed_in, with_first, closed_octagons}
 use Rattle.pk_octagons.specs.Laws.{OctagonsStay}
 use Rattle.pk_octagons.proofs.Places.{place_there}

@@ -112,13 +112,6 @@ impl Octagons {
         })
     }
 
-    /// How many there are.
-    pub fn count(&self) -> usize
-        ensures { result ≡ length self.now }
-    {
-        self.all.len()
-    }
-
     /// The same octagons, shared.
     pub fn copy(&self, alloc: Global) -> Result<Octagons, AllocError>
         ensures { IfOk result (λ o. o ≡ self.now) }

@@ -80,14 +80,6 @@ impl Model for Places {
 }
 
 impl Places {
-    fn none(alloc: Global) -> Places
-        ensures { result ≡ [] }
-    {
-        Places {
-            all: Vec::new(alloc),
-        }
-    }
-
     fn push(&mut self, place: Place) -> Result<(), AllocError>
         ensures { OnOk result (self.new ≡ self.old ++ place ∷ []) }
     {
@@ -98,7 +90,7 @@ impl Places {
     fn as_slice(&self) -> &[Place]
         ensures { result.now ≡ self.now }
     {
-        &self.all
+        self.all.as_slice()
     }
 }
 
@@ -128,7 +120,9 @@ fn no_places(alloc: Global, count: usize) -> Result<Vec<Places>, AllocError>
 {
     let mut table = Vec::with_capacity(alloc, count)?;
     for _ in 0..count {
-        table.push(Places::none(alloc))?;
+        table.push(Places {
+            all: Vec::new(alloc),
+        })?;
     }
     Ok(table)
 }

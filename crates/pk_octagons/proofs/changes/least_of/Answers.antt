@@ -1,5 +1,5 @@
-use Rattle.std.proofs.Common.{◌≡◌, ◌<◌, ◌*◌, ◌+◌, ◌∙◌, ap, sym, subst, refl, arith, drop, length, slice_index_or}
-use Rattle.std.specs.Prelude.{◌/◌, ℕ, ℤ, List, Option, None, map, IfSome}
+use Rattle.std.proofs.Common.{◌≡◌, ◌<◌, ◌*◌, ◌+◌, ◌∙◌, ap, sym, subst, arith, drop, length, slice_index_or}
+use Rattle.std.specs.Prelude.{◌/◌, None, IfSome}
 use Rattle.std.proofs.Math.ListN.{drop_of_length-le}
 use Rattle.std.proofs.lemmas.List.{length-map, drop_more}
 use Rattle.pk_octmat.specs.Bounds.{lesser}
@@ -9,7 +9,7 @@ use Rattle.pk_octagons.specs.Packs.{side_of, side_in}
 use Rattle.pk_octagons.specs.Octagons.{octagon_at}
 use Rattle.pk_octagons.specs.Changes.{then_with}
 use Rattle.pk_octagons.proofs.Zips.{read_is}
-use Rattle.pk_octagons.proofs.Overs.{IsThere, is_there}
+use Rattle.pk_octagons.proofs.Overs.{is_there}
 use Rattle.pk_octagons.proofs.Least.{least_with, told_at, least_all}
 use Rattle.pk_octagons.proofs.changes.least_of.Goals as goal
 

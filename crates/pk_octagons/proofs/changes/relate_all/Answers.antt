@@ -1,16 +1,14 @@
 use Rattle.std.proofs.Common.{◌≡◌, ◌<◌, ◌*◌, ◌∙◌, ap, sym, subst, refl, arith, set, length, slice_index_or, to_z, of_z, Some}
-use Rattle.std.specs.Prelude.{◌≢◌, ◌/◌, ℕ, ℤ, List, Option, None, IfSome}
+use Rattle.std.specs.Prelude.{◌≢◌, ◌/◌, ℕ, List, Option, None, IfSome}
 use Rattle.std.specs.Int.{w128}
 use Rattle.std.proofs.lemmas.Int.{to_z-of_z}
 use Rattle.pk_octmat.specs.Octagon.{Octagon}
-use Rattle.pk_octops.specs.Assigns.{assignment_of}
 use Rattle.pk_octops.specs.Guards.{guard_of}
 use Rattle.pk_octagons.specs.declared.packs.Place.{Place}
-use Rattle.pk_octagons.specs.Packs.{place_in, pack_at, side_of, side_in}
-use Rattle.pk_octagons.specs.Octagons.{octagon_at, widths}
-use Rattle.pk_octagons.specs.Changes.{then_with, or_else, changed_at, assigned_in, bounded_in, related_in, each_changed, assigned_octagons}
-use Rattle.pk_octagons.proofs.Zips.{read_is}
-use Rattle.pk_octagons.proofs.Overs.{IsThere, is_there, over_more, over_end, assigned_at, assigned_is, bounded_at, bounded_is, related_at, related_is, related_vars, sides_apart}
+use Rattle.pk_octagons.specs.Packs.{pack_at, side_of, side_in}
+use Rattle.pk_octagons.specs.Octagons.{octagon_at}
+use Rattle.pk_octagons.specs.Changes.{or_else, changed_at, related_in, each_changed}
+use Rattle.pk_octagons.proofs.Overs.{IsThere, is_there, over_more, over_end, related_at, related_is, related_vars, sides_apart}
 use Rattle.pk_octmat.specs.Octagon.{bar}
 use Rattle.pk_octops.specs.Guards.{IsGuard}
 use Rattle.pk_octagons.proofs.changes.relate_all.Goals as goal

@@ -1,11 +1,10 @@
-use Rattle.std.proofs.Common.{◌≡◌, sym, subst, set, Some, to_z, of_z}
+use Rattle.std.proofs.Common.{◌≡◌, subst, set, Some}
 use Rattle.std.specs.Prelude.{OnOk}
 use Rattle.std.specs.Int.{w128}
 use Rattle.std.proofs.lemmas.Int.{to_z-of_z}
 use Rattle.pk_octops.specs.Guards.{guard_of}
 use Rattle.pk_octagons.specs.Octagons.{octagon_at}
-use Rattle.pk_octagons.specs.Changes.{or_else, changed_at}
-use Rattle.pk_octagons.proofs.Overs.{set_octagon}
+use Rattle.pk_octagons.specs.Changes.{or_else}
 use Rattle.pk_octagons.proofs.changes.relate_one.Goals as goal
 
 pub returns-in-Some : goal.returns-in-Some

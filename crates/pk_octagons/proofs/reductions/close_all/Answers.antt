@@ -1,9 +1,7 @@
-use Rattle.std.proofs.Common.{◌≡◌, ◌<◌, ap, sym, subst, refl, ◌∙◌, arith, length, below_more}
-use Rattle.std.specs.Prelude.{List, []}
+use Rattle.std.proofs.Common.{◌<◌, ap, sym, subst, ◌∙◌, arith, length}
+use Rattle.std.specs.Prelude.{[]}
 use Rattle.pk_octmat.specs.Octagon.{Octagon}
-use Rattle.pk_octagons.specs.Packs.{IsPack, pack_at}
-use Rattle.pk_octagons.specs.Octagons.{octagon_at}
-use Rattle.pk_octagons.specs.Reduced.{IsResting}
+use Rattle.pk_octagons.specs.Packs.{IsPack}
 use Rattle.pk_octagons.proofs.Zips.{read_is}
 use Rattle.pk_octagons.proofs.Overs.{same_count, place_width}
 use Rattle.pk_octagons.proofs.Closed.{closed_more, closed_stop, closed_end}

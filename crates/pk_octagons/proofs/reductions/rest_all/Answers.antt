@@ -1,12 +1,10 @@
-use Rattle.std.proofs.Common.{◌≡◌, ◌<◌, ap, sym, subst, refl, ◌∙◌, arith, length, below_more}
-use Rattle.std.specs.Prelude.{List, []}
+use Rattle.std.proofs.Common.{◌<◌, ap, sym, subst, ◌∙◌, arith, length, below_more}
+use Rattle.std.specs.Prelude.{[]}
 use Rattle.pk_octmat.specs.Octagon.{Octagon}
 use Rattle.pk_octagons.specs.Packs.{IsPack, pack_at}
-use Rattle.pk_octagons.specs.Octagons.{octagon_at}
 use Rattle.pk_octagons.specs.Reduced.{IsResting}
 use Rattle.pk_octagons.proofs.Zips.{read_is}
 use Rattle.pk_octagons.proofs.Overs.{same_count, place_width}
-use Rattle.pk_octagons.proofs.Closed.{behind_none, closed_more, closed_stop, closed_end}
 use Rattle.pk_octagons.proofs.reductions.rest_all.Goals as goal
 
 pub pack-requires : goal.pack-requires

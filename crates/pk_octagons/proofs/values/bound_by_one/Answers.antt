@@ -1,4 +1,4 @@
-use Rattle.std.proofs.Common.{◌<◌, sym, subst, ◌∙◌, arith, length, length-set, refl}
+use Rattle.std.proofs.Common.{◌<◌, sym, subst, ◌∙◌, arith, length, length-set}
 use Rattle.pk_octagons.specs.Values.{IsValue, type_at}
 use Rattle.pk_octagons.proofs.Lists.{get_known}
 use Rattle.pk_octagons.proofs.Bounding.{value_at, bounded_value, write_values, bounded_more, bounded_stop}

@@ -1,9 +1,8 @@
-use Rattle.std.proofs.Common.{◌≡◌, ◌<◌, ◌+◌, drop, ap, sym, subst, refl, ◌∙◌, arith, length, below_more}
-use Rattle.std.specs.Prelude.{List, [], Bool, true, false, Some, None}
+use Rattle.std.proofs.Common.{◌≡◌, ◌<◌, ◌+◌, drop, ap, sym, subst, ◌∙◌, arith, length, below_more}
+use Rattle.std.specs.Prelude.{List, [], Some, None}
 use Rattle.pk_value.specs.Known.{Known}
 use Rattle.pk_octmat.specs.Octagon.{Octagon}
-use Rattle.pk_octagons.specs.Packs.{IsPack, pack_at}
-use Rattle.pk_octagons.specs.Octagons.{octagon_at}
+use Rattle.pk_octagons.specs.Packs.{pack_at}
 use Rattle.pk_octagons.specs.Reduced.{kept_if, bounded_all, bounded_values, BoundsNone}
 use Rattle.pk_octagons.specs.Changes.{then_with}
 use Rattle.pk_octagons.proofs.Zips.{read_is}
