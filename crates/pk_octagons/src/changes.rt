@@ -90,8 +90,8 @@ fn guard_one(
 ) -> Result<(), AllocError>
     requires octagon { p < length all.old.items }
     requires terms { IsGuard (octagon_at all.old.items p).vars (Some i) j }
-    ensures { OnOk result (all.new.items
-        ≡ slice_set all.old.items p (or_else (octagon_at all.old.items p) (guard_of (octagon_at all.old.items p) (Some i) j c))) }
+    ensures { OnOk result (all.new.items ≡ slice_set all.old.items p
+        (or_else (octagon_at all.old.items p) (guard_of (octagon_at all.old.items p) (Some i) j c))) }
 {
     let octagon = all[p].guarded(alloc, Some(i), j, c)?;
     put_if(all, p, octagon);

@@ -131,8 +131,8 @@ fn no_places(alloc: Global, count: usize) -> Result<Vec<Places>, AllocError>
 fn add_places(table: &mut Vec<Places>, p: usize, pack: &Pack) -> Result<(), AllocError>
     requires { IsPack (length table.old.items) pack.now }
     ensures size { OnOk result (length table.new.items ≡ length table.old.items) }
-    ensures value { OnOk result ((x : ℕ) → x < length table.old.items →
-        slice_index_or table.new.items x [] ≡ slice_index_or table.old.items x [] ++ with_place p (place_in pack.now x) []) }
+    ensures value { OnOk result ((x : ℕ) → x < length table.old.items → slice_index_or table.new.items x []
+        ≡ slice_index_or table.old.items x [] ++ with_place p (place_in pack.now x) []) }
 {
     for k in 0..pack.len() {
         let x = pack.variable(k);
