@@ -1,6 +1,6 @@
 // The piece of a point.
 
-ghost use Rattle.std.specs.Prelude.{◌≡◌, ◌<◌, ◌||◌, true, All, IfOk, IfSome, length, map};
+ghost use Rattle.std.specs.Prelude.{◌≡◌, ◌<◌, ◌||◌, true, not, nat_eq, is_some, All, IfOk, IfSome, length, map};
 ghost use Rattle.pk_graph.specs.Accesses.{AccessOf};
 ghost use Rattle.pk_graph.specs.AccessViews.{access_view, access_views};
 ghost use Rattle.pk_graph.specs.Graphs.{GraphOf, kinds_of};
@@ -147,7 +147,7 @@ pub fn piece_by_state(
     })
 }
 
-/// The piece of a point that isn't told and has no access, so that it needs no state.
+/// The piece of a point that isn't told and has no access, so that it needs no state; none of another.
 pub fn piece_without_state(
     alloc: Global,
     accesses: &[Access<'_>],
@@ -155,8 +155,9 @@ pub fn piece_without_state(
     is_head: bool,
     all: bool,
 ) -> Option<Piece>
-    ensures { IfSome result (λ p. (g : GraphOf) (s : Stated) → access_views accesses.now ≡ accesses_at g point →
+    ensures piece { IfSome result (λ p. (g : GraphOf) (s : Stated) → access_views accesses.now ≡ accesses_at g point →
         p ≡ piece_by all g is_head s point) }
+    ensures some { is_some result ≡ not ((is_head || all) || not (nat_eq (length accesses.now) 0)) }
 {
     if is_told(is_head, all) || !accesses.is_empty() {
         return None;
