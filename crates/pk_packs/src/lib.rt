@@ -2,6 +2,7 @@
 #![tactic(auto)]
 
 mod answers;
+mod chains;
 mod edges;
 mod ends;
 mod failures;
@@ -11,6 +12,7 @@ mod marks;
 mod points;
 
 pub use answers::packs;
+pub use chains::chain_bound_packs;
 pub use failures::PackError;
 pub use laws::{
     edges_have_packs, edges_lie_between_members, inner_edges_are_outer,
