@@ -3,7 +3,7 @@ use Rattle.std.specs.Prelude.{◌^◌, ◌/◌, Bool, not, ◌&&◌, if◌then�
 use Rattle.std.specs.Ordering.{int_eq}
 use Rattle.pk_ctypes.specs.declared.types.IntType.{IntType}
 use Rattle.pk_ctypes.specs.declared.types.Op.{Op}
-use Rattle.pk_ctypes.specs.declared.types.Op.TheVariants.{Add, Sub, Mul, Div, Rem, Shl, Shr, And, Or, Xor, Lt, Gt, Le, Ge, Eq, Ne, Neg, BitNot, Not}
+use Rattle.pk_ctypes.specs.declared.types.Op.TheVariants.{Add, Sub, Mul, Div, Rem, Shl, Neg, BitNot}
 use Rattle.pk_ctypes.specs.Types.{is_signed_of, size_of, high_of}
 use Rattle.pk_ctypes.specs.Operators.{is_count}
 use Rattle.pk_congr.specs.Classes.{Class, int_gcd, divides, is_held, every, class_if}
@@ -83,19 +83,9 @@ result_of Mul t a b = class_product a b
 result_of Div t a b = class_quotient a b
 result_of Rem t a b = class_rest a b
 result_of Shl t a b = class_doubled t a b
-result_of Shr t a b = every
-result_of And t a b = every
-result_of Or t a b = every
-result_of Xor t a b = every
-result_of Lt t a b = every
-result_of Gt t a b = every
-result_of Le t a b = every
-result_of Ge t a b = every
-result_of Eq t a b = every
-result_of Ne t a b = every
 result_of Neg t a b = class_negative a
 result_of BitNot t a b = class_complement t a
-result_of Not t a b = every
+result_of op t a b = every
 
 -- The class after its numbers were shifted into the type by adding one number, or each by a multiple of the type's size of its own.
 abbrev pub wrapped_class : IntType → Class → Option ℤ → Class

@@ -35,17 +35,13 @@ Is P (Some k) = P k
 
 -- an operand may end with it, so that `*` and `&` behind it are binary operators
 abbrev pub EndsOperand : Kind → Type 0
-EndsOperand (kind.Keyword k) = ⊥
 EndsOperand kind.Name = Unit {0}
 EndsOperand kind.TypeName = Unit {0}
 EndsOperand (kind.Constant t v) = Unit {0}
 EndsOperand (kind.Character v) = Unit {0}
-EndsOperand kind.StringLiteral = ⊥
-EndsOperand kind.Floating = ⊥
-EndsOperand kind.Directive = ⊥
 EndsOperand (kind.Punctuator p) =
     (p ≡ mark.CloseParenthesis) ⊎ (p ≡ mark.CloseBracket) ⊎ (p ≡ mark.Increment) ⊎ (p ≡ mark.Decrement)
-EndsOperand kind.End = ⊥
+EndsOperand k = ⊥
 
 -- The construct is shown by a token of kind k, where the token before it is of the kind `before`, if there is one, and some brace is open
 -- or none.

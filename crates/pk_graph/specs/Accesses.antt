@@ -4,7 +4,7 @@ use Rattle.pk_ctypes.specs.declared.faults.Fault.{Fault}
 use Rattle.pk_ctypes.specs.declared.faults.Fault.TheVariants as faults
 use Rattle.pk_ctypes.specs.declared.types.IntType.{IntType}
 use Rattle.pk_ctypes.specs.declared.types.Op.{Op}
-use Rattle.pk_ctypes.specs.declared.types.Op.TheVariants.{Add, Sub, Mul, Div, Rem, Shl, Shr, And, Or, Xor, Lt, Gt, Le, Ge, Eq, Ne, Neg, BitNot, Not}
+use Rattle.pk_ctypes.specs.declared.types.Op.TheVariants.{Add, Sub, Mul, Div, Rem, Shl, Shr, Neg}
 use Rattle.pk_ctypes.specs.Types.{is_signed_of}
 use Rattle.pk_graph.specs.declared.trees.Site.{Site}
 use Rattle.pk_graph.specs.Trees.{TreeOf, constant, variable, converted, unary, binary, InstrOf, Skip, Set, Havoc, Clear, Load, Store, Guard, Check}
@@ -51,24 +51,7 @@ if_signed t a = signed_only (is_signed_of t) a
 -- those of an operator with one operand itself
 abbrev pub of_unary : ℕ → Op → Site → IntType → TreeOf ℕ → List AccessOf
 of_unary p Neg s t e = if_signed t (access p s (Negation t e))
-of_unary p BitNot s t e = []
-of_unary p Not s t e = []
-of_unary p Add s t e = []
-of_unary p Sub s t e = []
-of_unary p Mul s t e = []
-of_unary p Div s t e = []
-of_unary p Rem s t e = []
-of_unary p Shl s t e = []
-of_unary p Shr s t e = []
-of_unary p And s t e = []
-of_unary p Or s t e = []
-of_unary p Xor s t e = []
-of_unary p Lt s t e = []
-of_unary p Gt s t e = []
-of_unary p Le s t e = []
-of_unary p Ge s t e = []
-of_unary p Eq s t e = []
-of_unary p Ne s t e = []
+of_unary p op s t e = []
 
 -- those of an operator with two; a division by 0 comes before its overflow
 abbrev pub of_binary : ℕ → Op → Site → IntType → TreeOf ℕ → TreeOf ℕ → List AccessOf
@@ -79,18 +62,7 @@ of_binary p Div s t a b = access p s (Divisor a b) ∷ if_signed t (access p s (
 of_binary p Rem s t a b = access p s (Divisor a b) ∷ if_signed t (access p s (Result Rem t a b))
 of_binary p Shl s t a b = access p s (Shift Shl t a b) ∷ []
 of_binary p Shr s t a b = access p s (Shift Shr t a b) ∷ []
-of_binary p And s t a b = []
-of_binary p Or s t a b = []
-of_binary p Xor s t a b = []
-of_binary p Lt s t a b = []
-of_binary p Gt s t a b = []
-of_binary p Le s t a b = []
-of_binary p Ge s t a b = []
-of_binary p Eq s t a b = []
-of_binary p Ne s t a b = []
-of_binary p Neg s t a b = []
-of_binary p BitNot s t a b = []
-of_binary p Not s t a b = []
+of_binary p op s t a b = []
 
 -- operands from left to right, then the operator
 unfoldable pub of_tree : ℕ → TreeOf ℕ → List AccessOf

@@ -19,7 +19,7 @@ use Rattle.pk_cert_report.specs.Causes.{IsUngraphed, IsUnanalysed}
 use Rattle.pk_cert_report.specs.Written.{IsCertified, IsUncertified}
 use Rattle.pk_cert_report.specs.Checked.{IsValid, IsInvalid}
 use Rattle.pk_status.specs.declared.status.Status.{Status}
-use Rattle.pk_status.specs.declared.status.Status.TheVariants.{Ok, Usage, Refused, Limit, RunLimit, CertLimit, CertByte, CertState, CertFails, ReadFault, WriteFault, Memory}
+use Rattle.pk_status.specs.declared.status.Status.TheVariants.{Ok, Usage, Limit, CertLimit, ReadFault, WriteFault, Memory}
 
 -- the greatest number of bytes of a text
 abbrev pub text_limit : ℕ
@@ -139,17 +139,11 @@ IsEnded command text s =
 -- The reply to a command about a text, status by status. Nothing is told but a report, an order, a summary, a certificate or the verdicts of one.
 abbrev pub IsReply : Command → List ℕ → Status → List ℕ → Type 0
 IsReply command text (Ok unknown) bytes = IsShort text command × IsTold text command unknown bytes
-IsReply command text (Refused refusal) bytes = IsEnded command text (Refused refusal) × (bytes ≡ [])
-IsReply command text (Limit what number) bytes = IsEnded command text (Limit what number) × (bytes ≡ [])
-IsReply command text (RunLimit max_runs) bytes = IsEnded command text (RunLimit max_runs) × (bytes ≡ [])
-IsReply command text CertLimit bytes = IsEnded command text CertLimit × (bytes ≡ [])
-IsReply command text (CertByte offset) bytes = IsEnded command text (CertByte offset) × (bytes ≡ [])
-IsReply command text (CertState point) bytes = IsEnded command text (CertState point) × (bytes ≡ [])
-IsReply command text (CertFails point) bytes = IsEnded command text (CertFails point) × (bytes ≡ [])
 IsReply command text Usage bytes = ⊥
 IsReply command text ReadFault bytes = ⊥
 IsReply command text (WriteFault sent) bytes = ⊥
 IsReply command text Memory bytes = ⊥
+IsReply command text status bytes = IsEnded command text status × (bytes ≡ [])
 
 -- words that aren't taken
 pub record IsUsage (words : List (List ℕ)) (status : Status) (bytes : List ℕ) : Type 0 where

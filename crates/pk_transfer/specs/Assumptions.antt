@@ -1,8 +1,8 @@
 -- What is known where a guard passes.
 use Rattle.std.specs.Prelude.{◌≡◌, ℕ, Bool, ℤ, pos, ◌-ℤ◌, List, [], ◌∷◌, Option, Some, None, Ok}
 use Rattle.pk_ctypes.specs.declared.types.Op.{Op}
-use Rattle.pk_ctypes.specs.declared.types.Op.TheVariants.{Add, Sub, Mul, Div, Rem, Shl, Shr, And, Or, Xor, Lt, Gt, Le, Ge, Eq, Ne, Neg, BitNot, Not}
-use Rattle.pk_graph.specs.Trees.{TreeOf, constant, variable, converted, unary, binary}
+use Rattle.pk_ctypes.specs.declared.types.Op.TheVariants.{Lt, Gt, Le, Ge, Eq}
+use Rattle.pk_graph.specs.Trees.{TreeOf, variable}
 use Rattle.pk_graph.specs.Kinds.{Kinds, IsTyped}
 use Rattle.pk_graph.specs.Steps.{tree_value, is_true}
 use Rattle.pk_graph.specs.Stores.{Stored, storing, IsStore}
@@ -34,35 +34,19 @@ le_in f (Some l) (Some r) n = places_in f (difference l r).places ((r.constant -
 
 -- a comparison of two forms holds
 abbrev pub compared_in : Op → Option Facts → Option Linear → Option Linear → Option Facts
-compared_in Add f l r = f
-compared_in Sub f l r = f
-compared_in Mul f l r = f
-compared_in Div f l r = f
-compared_in Rem f l r = f
-compared_in Shl f l r = f
-compared_in Shr f l r = f
-compared_in And f l r = f
-compared_in Or f l r = f
-compared_in Xor f l r = f
 compared_in Lt f l r = le_in f l r (pos 1)
 compared_in Gt f l r = le_in f r l (pos 1)
 compared_in Le f l r = le_in f l r (pos 0)
 compared_in Ge f l r = le_in f r l (pos 0)
 compared_in Eq f l r = le_in (le_in f l r (pos 0)) r l (pos 0)
-compared_in Ne f l r = f
-compared_in Neg f l r = f
-compared_in BitNot f l r = f
-compared_in Not f l r = f
+compared_in op f l r = f
 
 -- ---- the operands
 
 -- an operand that is a variable is refined by what was known of the other
 abbrev pub with_operand : Option Facts → TreeOf ℕ → Op → Known → Option Facts
-with_operand f (constant t n) op v = f
 with_operand f (variable x) op v = with_known_if f x (known_with (known_in f x) (λ k. refined op k v))
-with_operand f (converted t e) op v = f
-with_operand f (unary p s t e) op v = f
-with_operand f (binary p s t a b) op v = f
+with_operand f e op v = f
 
 abbrev pub if_some : Option Known → Option Facts → Option Facts
 if_some None f = None

@@ -100,19 +100,7 @@ test_of Le x y = int_le x y
 test_of Ge x y = int_le y x
 test_of Eq x y = int_eq x y
 test_of Ne x y = not (int_eq x y)
-test_of Add x y = true
-test_of Sub x y = true
-test_of Mul x y = true
-test_of Div x y = true
-test_of Rem x y = true
-test_of Shl x y = true
-test_of Shr x y = true
-test_of And x y = true
-test_of Or x y = true
-test_of Xor x y = true
-test_of Neg x y = true
-test_of BitNot x y = true
-test_of Not x y = true
+test_of op x y = true
 
 -- its operands have values of which it holds
 pub record HoldsIn (s : Stored) (c : Condition) : Type 0 where
@@ -149,19 +137,7 @@ refined Gt x v = at_least x (v.range.lo +ℤ pos 1)
 refined Ge x v = at_least x v.range.lo
 refined Eq x v = with_both (met x.range v.range) (met_classes x.class v.class)
 refined Ne x v = if is_constant v then other_than x v.range.lo else Some x
-refined Add x v = Some x
-refined Sub x v = Some x
-refined Mul x v = Some x
-refined Div x v = Some x
-refined Rem x v = Some x
-refined Shl x v = Some x
-refined Shr x v = Some x
-refined And x v = Some x
-refined Or x v = Some x
-refined Xor x v = Some x
-refined Neg x v = Some x
-refined BitNot x v = Some x
-refined Not x v = Some x
+refined op x v = Some x
 
 -- A tree's truth is that of its condition; and of a comparison that holds both operands are kept.
 pub record GuardsKeep : Type 0 where

@@ -2,7 +2,7 @@
 use Rattle.std.specs.Prelude.{◌≡◌, ◌≢◌, ℕ, ◌<◌, ◌-◌, ◌*◌, ◌^◌, ◌==◌, nat_le, Bool, ◌&&◌, ◌||◌, if◌then◌else◌, ℤ, pos, negsuc, ◌+ℤ◌, ◌-ℤ◌, ◌≤ℤ◌, neg_ℤ, int_le, int_lt, List, [], ◌∷◌, length, map, Option, Some, None, option_map, Ok}
 use Rattle.pk_ctypes.specs.declared.types.IntType.{IntType}
 use Rattle.pk_ctypes.specs.declared.types.Op.{Op}
-use Rattle.pk_ctypes.specs.declared.types.Op.TheVariants.{Add, Sub, Mul, Div, Rem, Shl, Shr, And, Or, Xor, Lt, Gt, Le, Ge, Eq, Ne, Neg, BitNot, Not}
+use Rattle.pk_ctypes.specs.declared.types.Op.TheVariants.{Add, Sub, Neg}
 use Rattle.pk_ctypes.specs.Types.{low_of, high_of, is_signed_of}
 use Rattle.pk_interval.specs.declared.outcome.Outcome.{Outcome}
 use Rattle.pk_interval.specs.declared.outcome.Outcome.TheVariants.{Empty, Within, TooLarge}
@@ -103,46 +103,13 @@ is_exact op t j k = stays t (range_of op t j.range k.range)
 
 -- a form that only a negative has, and two that only a sum and a difference have
 abbrev pub if_negative : Op → Option Linear → Option Linear
-if_negative Add l = None
-if_negative Sub l = None
-if_negative Mul l = None
-if_negative Div l = None
-if_negative Rem l = None
-if_negative Shl l = None
-if_negative Shr l = None
-if_negative And l = None
-if_negative Or l = None
-if_negative Xor l = None
-if_negative Lt l = None
-if_negative Gt l = None
-if_negative Le l = None
-if_negative Ge l = None
-if_negative Eq l = None
-if_negative Ne l = None
 if_negative Neg l = l
-if_negative BitNot l = None
-if_negative Not l = None
+if_negative op l = None
 
 abbrev pub if_sum : Op → Option Linear → Option Linear → Option Linear
 if_sum Add l m = l
 if_sum Sub l m = m
-if_sum Mul l m = None
-if_sum Div l m = None
-if_sum Rem l m = None
-if_sum Shl l m = None
-if_sum Shr l m = None
-if_sum And l m = None
-if_sum Or l m = None
-if_sum Xor l m = None
-if_sum Lt l m = None
-if_sum Gt l m = None
-if_sum Le l m = None
-if_sum Ge l m = None
-if_sum Eq l m = None
-if_sum Ne l m = None
-if_sum Neg l m = None
-if_sum BitNot l m = None
-if_sum Not l m = None
+if_sum op l m = None
 
 -- The linear form of a tree over the chosen variables, where it has one and g says what is known of each variable.
 abbrev pub linear : List ℕ → (ℕ → Option Known) → TreeOf ℕ → Option Linear

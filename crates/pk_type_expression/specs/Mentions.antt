@@ -13,15 +13,11 @@ use Rattle.pk_type_expression.specs.Types.{target_of}
 abbrev pub is_same : Variable → Variable → Bool
 is_same (File a) (File b) = nat_eq a b
 is_same (Local a) (Local b) = nat_eq a b
-is_same (File a) (Local b) = false
-is_same (Local a) (File b) = false
+is_same x y = false
 
 abbrev pub object_named : Option Declaration → List Variable
-object_named None = []
-object_named (Some (declared.Function f)) = []
 object_named (Some (declared.Object o)) = o.variable ∷ []
-object_named (Some (declared.Enumerator n)) = []
-object_named (Some (declared.TypeName t)) = []
+object_named d = []
 
 abbrev pub object_changed : Option Target → List Variable
 object_changed None = []

@@ -53,11 +53,8 @@ constness d (prefix op at e) = fails_if (is_const (target_of d e)) rule.Const at
 constness d _ = []
 
 abbrev pub takes_others : Option Declaration → ℕ → Bool
-takes_others None n = false
-takes_others (Some (declared.Object o)) n = false
-takes_others (Some (declared.Enumerator m)) n = false
-takes_others (Some (declared.TypeName t)) n = false
 takes_others (Some (declared.Function f)) n = not (nat_eq (arguments_of f.callee) n)
+takes_others d n = false
 
 abbrev pub count : ExpressionTrees → ℕ
 count no_expressions = 0

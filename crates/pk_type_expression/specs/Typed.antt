@@ -33,9 +33,8 @@ pub data EvaluatedTree : Type 0 where
 
 -- its value, if it has one
 abbrev pub value_of : Option EvaluatedTree → Option ValueTree
-value_of None = None
 value_of (Some (value v)) = Some v
-value_of (Some (effect e)) = None
+value_of e = None
 
 abbrev pub effect_in : EvaluatedTree → EffectTree
 effect_in (value v) = tree.unused v
@@ -54,9 +53,8 @@ pub record OperandTree : Type 0 where
   pub tree : ValueTree
 
 abbrev pub operand_of : Typing → Option EvaluatedTree → Option OperandTree
-operand_of Void e = None
 operand_of (Integer t) e = option_map (λ v. record { int_type = t; tree = v }) (value_of e)
-operand_of Unknown e = None
+operand_of t e = None
 
 -- the place that is read, if the value is that
 abbrev pub place_in : ValueTree → Option PlaceTree
@@ -64,26 +62,22 @@ place_in (tree.read p) = Some p
 place_in _ = None
 
 abbrev pub place_of : Option EvaluatedTree → Option PlaceTree
-place_of None = None
 place_of (Some (value v)) = place_in v
-place_of (Some (effect e)) = None
+place_of e = None
 
 -- where both are there
 abbrev pub of_both : {A B C : Type 0} → (A → B → C) → Option A → Option B → Option C
-of_both f None y = None
-of_both f (Some x) None = None
 of_both f (Some x) (Some y) = Some (f x y)
+of_both f x y = None
 
 abbrev pub scalar_value : Object → Option ValueTree
 scalar_value o = if o.is_array then None else option_map (λ t. tree.read (tree.scalar t o.variable)) o.int_type
 
 -- an object is read; an enumerator is a constant (6.4.4.3)
 abbrev pub name_value : Option Declaration → Option ValueTree
-name_value None = None
 name_value (Some (declared.Object o)) = scalar_value o
-name_value (Some (declared.Function f)) = None
 name_value (Some (declared.Enumerator n)) = option_map (tree.constant Int) n
-name_value (Some (declared.TypeName t)) = None
+name_value d = None
 
 abbrev pub element_value : Pos → Option ValueTree → Object → Option ValueTree
 element_value at i o =
@@ -100,9 +94,8 @@ if_none no_values x = Some x
 if_none (value_before v vs) x = None
 
 abbrev pub only : ValueTrees → Option ValueTree
-only no_values = None
 only (value_before v no_values) = Some v
-only (value_before v (value_before w vs)) = None
+only vs = None
 
 -- calls of special names are forms of their own
 abbrev pub call_of : Callee → ℕ → ℕ → Pos → ValueTrees → Option EvaluatedTree
@@ -113,12 +106,8 @@ call_of Assert f n at vs = option_map (λ v. effect (tree.assert at v)) (only vs
 call_of Abort f n at vs = option_map effect (if_none vs (tree.abort at))
 
 abbrev pub typed_call : Option Declaration → ℕ → Pos → Option ValueTrees → Option EvaluatedTree
-typed_call None n at vs = None
-typed_call (Some (declared.Object o)) n at vs = None
-typed_call (Some (declared.Enumerator m)) n at vs = None
-typed_call (Some (declared.TypeName t)) n at vs = None
-typed_call (Some (declared.Function f)) n at None = None
 typed_call (Some (declared.Function f)) n at (Some vs) = call_of f.callee f.number n at vs
+typed_call d n at vs = None
 
 -- a step adds or subtracts 1 in the common type of its operand and int (6.5.2.4, 6.5.3.1)
 abbrev pub step_value : StepOperator → Bool → Pos → PlaceTree → ValueTree

@@ -4,8 +4,7 @@ use Rattle.pk_ctypes.specs.declared.places.Pos.{Pos}
 use Rattle.pk_ctypes.specs.declared.types.IntType.{IntType}
 use Rattle.pk_ctypes.specs.declared.types.IntType.TheVariants.{Int}
 use Rattle.pk_ctypes.specs.declared.types.Op.{Op}
-use Rattle.pk_ctypes.specs.Classes.{OperatorClass, arithmetic, shift, comparison, negation, class_of}
-use Rattle.pk_ctypes.specs.Classes as classes
+use Rattle.pk_ctypes.specs.Classes.{OperatorClass, shift, class_of}
 use Rattle.pk_ctypes.specs.Conversions.{promoted, usual_of}
 use Rattle.pk_ctypes.specs.Operators.{result_type}
 use Rattle.pk_ast.specs.Operators.{binary_number_operator, unary_number_operator}
@@ -15,18 +14,15 @@ use Rattle.pk_type_scope.specs.declared.declarations.Declaration.TheVariants as 
 use Rattle.pk_type_scope.specs.declared.declarations.Object.{Object}
 use Rattle.pk_type_expression.specs.declared.names.Target.{Target}
 use Rattle.pk_type_scope.specs.declared.declarations.Typing.{Typing}
-use Rattle.pk_type_scope.specs.declared.declarations.Typing.TheVariants.{Void, Integer, Unknown}
+use Rattle.pk_type_scope.specs.declared.declarations.Typing.TheVariants.{Integer, Unknown}
 use Rattle.pk_type_scope.specs.Declarations.{Names, typing_of, returned_by}
 use Rattle.pk_type_scope.specs.Specifiers.{type_named}
 
 -- The type to which the operands of a binary operator are converted: their common type (6.3.1.8). The operands of a shift are promoted one by one (6.5.7), so for it
 -- that is the left one's; promoting the count changes no value.
 abbrev pub common_of_class : OperatorClass → IntType → IntType → IntType
-common_of_class arithmetic t u = usual_of t u
 common_of_class shift t u = promoted t
-common_of_class comparison t u = usual_of t u
-common_of_class classes.unary t u = usual_of t u
-common_of_class negation t u = usual_of t u
+common_of_class class t u = usual_of t u
 
 abbrev pub operand_type : Op → IntType → IntType → IntType
 operand_type op t u = common_of_class (class_of op) t u
@@ -43,29 +39,15 @@ element_target at o =
     (record { variable = o.variable; int_type = o.int_type; is_const = o.is_const; bracket = Some at }) else None
 
 abbrev pub of_object : {A : Type 0} → (Object → Option A) → Option Declaration → Option A
-of_object f None = None
 of_object f (Some (declared.Object o)) = f o
-of_object f (Some (declared.Function g)) = None
-of_object f (Some (declared.Enumerator n)) = None
-of_object f (Some (declared.TypeName t)) = None
+of_object f d = None
 
 -- What an expression lets change, through parentheses (6.5.1, 6.3.2.1). No array has rows and columns, so two indices give nothing.
 unfoldable pub target_of : Names → ExpressionTree → Option Target
 target_of d (name x) = of_object scalar_target (d x)
 target_of d (index x at e) = of_object (element_target at) (d x)
-target_of d (element x at e column_at c) = None
 target_of d (parenthesized at e) = target_of d e
-target_of d (call x es) = None
-target_of d (constant at t n) = None
-target_of d (character at n) = None
-target_of d (postfix op at e) = None
-target_of d (prefix op at e) = None
-target_of d (unary op at e) = None
-target_of d (cast at words e) = None
-target_of d (binary op at a b) = None
-target_of d (conditional at a b c) = None
-target_of d (assignment op at a b) = None
-target_of d (comma at a b) = None
+target_of d e = None
 
 abbrev pub type_of_target : Option Target → Typing
 type_of_target None = Unknown
@@ -73,32 +55,23 @@ type_of_target (Some t) = typing_of t.int_type
 
 -- an enumerator is an int (6.4.4.3)
 abbrev pub type_of_name : Option Declaration → Typing
-type_of_name None = Unknown
 type_of_name (Some (declared.Object o)) = type_of_target (scalar_target o)
-type_of_name (Some (declared.Function f)) = Unknown
 type_of_name (Some (declared.Enumerator n)) = Integer Int
-type_of_name (Some (declared.TypeName t)) = Unknown
+type_of_name d = Unknown
 
 abbrev pub type_of_call : Option Declaration → Typing
-type_of_call None = Unknown
-type_of_call (Some (declared.Object o)) = Unknown
 type_of_call (Some (declared.Function f)) = returned_by f.callee
-type_of_call (Some (declared.Enumerator n)) = Unknown
-type_of_call (Some (declared.TypeName t)) = Unknown
+type_of_call d = Unknown
 
 -- where it is of an integer type
 abbrev pub of_integer : (IntType → IntType) → Typing → Typing
 of_integer f (Integer t) = Integer (f t)
-of_integer f Void = Unknown
-of_integer f Unknown = Unknown
+of_integer f t = Unknown
 
 -- where both are of an integer type
 abbrev pub of_integers : (IntType → IntType → IntType) → Typing → Typing → Typing
-of_integers f Void u = Unknown
-of_integers f (Integer t) Void = Unknown
 of_integers f (Integer t) (Integer u) = Integer (f t u)
-of_integers f (Integer t) Unknown = Unknown
-of_integers f Unknown u = Unknown
+of_integers f t u = Unknown
 
 abbrev pub unary_type : Option Op → IntType → IntType
 unary_type None t = promoted t

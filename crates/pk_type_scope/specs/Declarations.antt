@@ -32,70 +32,46 @@ typing_of None = Unknown
 -- where an object is needed, an enumerator counts as one
 abbrev pub is_object : Option Declaration → Bool
 is_object (Some (declared.Object o)) = true
-is_object (Some (declared.Function f)) = false
 is_object (Some (declared.Enumerator n)) = true
-is_object (Some (declared.TypeName t)) = false
-is_object None = false
+is_object d = false
 
 abbrev pub is_function : Option Declaration → Bool
 is_function (Some (declared.Function f)) = true
-is_function (Some (declared.Object o)) = false
-is_function (Some (declared.Enumerator n)) = false
-is_function (Some (declared.TypeName t)) = false
-is_function None = false
+is_function d = false
 
 abbrev pub is_array : Option Declaration → Bool
 is_array (Some (declared.Object o)) = o.is_array
-is_array (Some (declared.Function f)) = false
-is_array (Some (declared.Enumerator n)) = false
-is_array (Some (declared.TypeName t)) = false
-is_array None = false
+is_array d = false
 
 abbrev pub is_enumerator : Option Declaration → Bool
 is_enumerator (Some (declared.Enumerator n)) = true
-is_enumerator (Some (declared.Object o)) = false
-is_enumerator (Some (declared.Function f)) = false
-is_enumerator (Some (declared.TypeName t)) = false
-is_enumerator None = false
+is_enumerator d = false
 
 abbrev pub is_type_name : Option Declaration → Bool
 is_type_name (Some (declared.TypeName t)) = true
-is_type_name (Some (declared.Object o)) = false
-is_type_name (Some (declared.Function f)) = false
-is_type_name (Some (declared.Enumerator n)) = false
-is_type_name None = false
+is_type_name d = false
 
 -- the type that a name stands for (C99 6.7.7); unknown where it stands for none
 abbrev pub type_meant : Option Declaration → Typing
 type_meant (Some (declared.TypeName t)) = t.typing
-type_meant (Some (declared.Object o)) = Unknown
-type_meant (Some (declared.Function f)) = Unknown
-type_meant (Some (declared.Enumerator n)) = Unknown
-type_meant None = Unknown
+type_meant d = Unknown
 
 -- whether it is the type of const objects (C99 6.7.3)
 abbrev pub const_meant : Option Declaration → Bool
 const_meant (Some (declared.TypeName t)) = t.is_const
-const_meant (Some (declared.Object o)) = false
-const_meant (Some (declared.Function f)) = false
-const_meant (Some (declared.Enumerator n)) = false
-const_meant None = false
+const_meant d = false
 
 -- where an object is needed: one without elements, as an enumerator is
 abbrev pub is_scalar : Option Declaration → Bool
 is_scalar (Some (declared.Object o)) = not o.is_array
-is_scalar (Some (declared.Function f)) = false
 is_scalar (Some (declared.Enumerator n)) = true
-is_scalar (Some (declared.TypeName t)) = false
-is_scalar None = false
+is_scalar d = false
 
 -- what a call gives
 abbrev pub returned_by : Callee → Typing
 returned_by (Ordinary returns n) = returns
 returned_by (Any t) = Integer t
-returned_by Assume = Void
-returned_by Assert = Void
-returned_by Abort = Void
+returned_by callee = Void
 
 -- how many arguments a call has
 abbrev pub arguments_of : Callee → ℕ
@@ -108,17 +84,11 @@ arguments_of Abort = 0
 -- the call itself, where it is numbered
 abbrev pub site_of : ℕ → Pos → Callee → List CallSite
 site_of f at (Ordinary returns n) = record { function = f; at = at } ∷ []
-site_of f at (Any t) = []
-site_of f at Assume = []
-site_of f at Assert = []
-site_of f at Abort = []
+site_of f at callee = []
 
 abbrev pub own_site : Pos → Option Declaration → List CallSite
-own_site at None = []
-own_site at (Some (declared.Object o)) = []
-own_site at (Some (declared.Enumerator n)) = []
-own_site at (Some (declared.TypeName t)) = []
 own_site at (Some (declared.Function f)) = site_of f.number at f.callee
+own_site at d = []
 
 -- a declaration that failed no rule, as far as expressions see it: it has its type, an enumerator its value
 abbrev pub HasTypes : Option Declaration → Type 0

@@ -26,10 +26,7 @@ counted c word.Int = record c { ints = c.ints + 1 }
 counted c word.Long = record c { longs = c.longs + 1 }
 counted c word.Signed = record c { signeds = c.signeds + 1 }
 counted c word.Unsigned = record c { unsigneds = c.unsigneds + 1 }
-counted c word.Const = c
-counted c (word.TypeName start end) = c
-counted c word.Enum = c
-counted c (word.Tag start end) = c
+counted c word = c
 
 -- how often each word stands among these, after some
 abbrev pub counts_of : Counts → List Specifier → Counts
@@ -79,17 +76,9 @@ type_spelled words = type_counted (counts_of (counted no_words words.first.word)
 
 -- the name that a word of a type is looked up by, where it is a type name or a tag
 abbrev pub word_meant : SpecifierWord → Pos → List Identifier
-word_meant word.Void at = []
-word_meant word.Char at = []
-word_meant word.Short at = []
-word_meant word.Int at = []
-word_meant word.Long at = []
-word_meant word.Signed at = []
-word_meant word.Unsigned at = []
-word_meant word.Const at = []
 word_meant (word.TypeName start end) at = record { start = start; end = end; at = at; is_tag = false } ∷ []
-word_meant word.Enum at = []
 word_meant (word.Tag start end) at = record { start = start; end = end; at = at; is_tag = true } ∷ []
+word_meant word at = []
 
 abbrev pub words_meant : List Specifier → List Identifier
 words_meant [] = []
@@ -129,16 +118,7 @@ word_failures d words = failures_by d (type_name_among words) words
 
 abbrev pub is_const_word : SpecifierWord → Bool
 is_const_word word.Const = true
-is_const_word word.Void = false
-is_const_word word.Char = false
-is_const_word word.Short = false
-is_const_word word.Int = false
-is_const_word word.Long = false
-is_const_word word.Signed = false
-is_const_word word.Unsigned = false
-is_const_word (word.TypeName start end) = false
-is_const_word word.Enum = false
-is_const_word (word.Tag start end) = false
+is_const_word word = false
 
 abbrev pub has_const : List Specifier → Bool
 has_const [] = false

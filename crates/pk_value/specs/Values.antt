@@ -3,7 +3,7 @@ use Rattle.std.specs.Prelude.{Bool, ◌&&◌, if◌then◌else◌, ℤ, pos, Opt
 use Rattle.std.specs.Ordering.{int_eq}
 use Rattle.pk_ctypes.specs.declared.types.IntType.{IntType}
 use Rattle.pk_ctypes.specs.declared.types.Op.{Op}
-use Rattle.pk_ctypes.specs.declared.types.Op.TheVariants.{Add, Sub, Mul, Div, Rem, Shl, Shr, And, Or, Xor, Lt, Gt, Le, Ge, Eq, Ne, Neg, BitNot, Not}
+use Rattle.pk_ctypes.specs.declared.types.Op.TheVariants.{Eq, Ne, Not}
 use Rattle.pk_ctypes.specs.declared.faults.Fault.{Fault}
 use Rattle.pk_ctypes.specs.Operators.{value_of, result_type}
 use Rattle.pk_interval.specs.declared.outcome.Outcome.{Outcome}
@@ -27,22 +27,7 @@ abbrev pub compared : Op → Class → Class → Outcome → Outcome
 compared Eq a b r = one_if (are_apart a b) (pos 0) r
 compared Ne a b r = one_if (are_apart a b) (pos 1) r
 compared Not a b r = one_if (are_apart a (constant (pos 0))) (pos 0) r
-compared Add a b r = r
-compared Sub a b r = r
-compared Mul a b r = r
-compared Div a b r = r
-compared Rem a b r = r
-compared Shl a b r = r
-compared Shr a b r = r
-compared And a b r = r
-compared Or a b r = r
-compared Xor a b r = r
-compared Lt a b r = r
-compared Gt a b r = r
-compared Le a b r = r
-compared Ge a b r = r
-compared Neg a b r = r
-compared BitNot a b r = r
+compared op a b r = r
 
 abbrev pub red_as : Range → Class → Option Known
 red_as r c = known_of (red r c)

@@ -2,7 +2,7 @@
 use Rattle.std.specs.Prelude.{Bool, true, false, not, ◌&&◌, ◌||◌, if◌then◌else◌, ℤ, pos, negsuc, ◌-ℤ◌, int_le, int_lt, Option, Some, None}
 use Rattle.pk_ctypes.specs.declared.types.IntType.{IntType}
 use Rattle.pk_ctypes.specs.declared.types.Op.{Op}
-use Rattle.pk_ctypes.specs.declared.types.Op.TheVariants.{Add, Sub, Mul, Div, Rem, Shl, Shr, And, Or, Xor, Lt, Gt, Le, Ge, Eq, Ne, Neg, BitNot, Not}
+use Rattle.pk_ctypes.specs.declared.types.Op.TheVariants.{Div, Rem, Shl, Neg}
 use Rattle.pk_ctypes.specs.Types.{low_of, high_of, width_of, is_signed_of}
 use Rattle.pk_interval.specs.declared.outcome.Outcome.{Outcome}
 use Rattle.pk_interval.specs.declared.outcome.Outcome.TheVariants.{Empty, Within, TooLarge}
@@ -53,25 +53,9 @@ abbrev pub ranged_verdict : Op → IntType → Known → Known → Verdict
 ranged_verdict op t a b = result_verdict t (range_of op t a.range b.range)
 
 abbrev pub operator_verdict : Op → IntType → Known → Known → Verdict
-operator_verdict Add t a b = ranged_verdict Add t a b
-operator_verdict Sub t a b = ranged_verdict Sub t a b
-operator_verdict Mul t a b = ranged_verdict Mul t a b
 operator_verdict Div t a b = quotient_verdict t a b
 operator_verdict Rem t a b = quotient_verdict t a b
-operator_verdict Shl t a b = ranged_verdict Shl t a b
-operator_verdict Shr t a b = ranged_verdict Shr t a b
-operator_verdict And t a b = ranged_verdict And t a b
-operator_verdict Or t a b = ranged_verdict Or t a b
-operator_verdict Xor t a b = ranged_verdict Xor t a b
-operator_verdict Lt t a b = ranged_verdict Lt t a b
-operator_verdict Gt t a b = ranged_verdict Gt t a b
-operator_verdict Le t a b = ranged_verdict Le t a b
-operator_verdict Ge t a b = ranged_verdict Ge t a b
-operator_verdict Eq t a b = ranged_verdict Eq t a b
-operator_verdict Ne t a b = ranged_verdict Ne t a b
-operator_verdict Neg t a b = ranged_verdict Neg t a b
-operator_verdict BitNot t a b = ranged_verdict BitNot t a b
-operator_verdict Not t a b = ranged_verdict Not t a b
+operator_verdict op t a b = ranged_verdict op t a b
 
 -- the left operand and the result, where both may fail: of a left shift in a signed type
 abbrev pub left_verdict : Bool → IntType → Known → Known → Verdict
@@ -79,25 +63,8 @@ left_verdict true t a b = if int_le (pos 0) a.range.lo then ranged_verdict Shl t
 left_verdict false t a b = Safe
 
 abbrev pub moved_verdict : Op → IntType → Known → Known → Verdict
-moved_verdict Add t a b = Safe
-moved_verdict Sub t a b = Safe
-moved_verdict Mul t a b = Safe
-moved_verdict Div t a b = Safe
-moved_verdict Rem t a b = Safe
 moved_verdict Shl t a b = left_verdict (is_signed_of t) t a b
-moved_verdict Shr t a b = Safe
-moved_verdict And t a b = Safe
-moved_verdict Or t a b = Safe
-moved_verdict Xor t a b = Safe
-moved_verdict Lt t a b = Safe
-moved_verdict Gt t a b = Safe
-moved_verdict Le t a b = Safe
-moved_verdict Ge t a b = Safe
-moved_verdict Eq t a b = Safe
-moved_verdict Ne t a b = Safe
-moved_verdict Neg t a b = Safe
-moved_verdict BitNot t a b = Safe
-moved_verdict Not t a b = Safe
+moved_verdict op t a b = Safe
 
 -- first the count, which lies from 0 to the width less 1
 abbrev pub shift_verdict : Op → IntType → Known → Known → Verdict
