@@ -3,7 +3,7 @@ use Rattle.std.proofs.Common.{ℕ, ◌≤◌, sym, subst, arith}
 use Rattle.std.specs.Prelude.{Option, Some, None, IfSome, slice_index_or}
 use Rattle.pk_ctypes.specs.declared.places.Pos.{Pos}
 use Rattle.pk_typed.specs.Trees.{BodyTree, UnitTree}
-use Rattle.pk_type_scope.specs.Failures.{noted}
+use Rattle.pk_type.specs.Rules.{noting}
 use Rattle.pk_type.specs.Units.{checked, unit_of}
 use Rattle.pk_graph.specs.Accesses.{accesses_of}
 use Rattle.pk_graph.specs.Graphs.{GraphOf}
@@ -30,7 +30,7 @@ pub operators_are_apart : OperatorsOfTextsAreApart
 operators_are_apart text u h =
     let p = h.parsed in
     subst OperatorsAreApart (sym h.unit)
-    (unit_apart (unit_of (checked noted None text h.all)) (λ at. in_externals (one_at at) h.all) (λ at. omega (arith, operators_are_the_tokens p.tokens h.all (one_at at) p.parsed.parsed, tokens_are_apart text p.tokens p.read at))
+    (unit_apart (unit_of (checked noting None text h.all)) (λ at. in_externals (one_at at) h.all) (λ at. omega (arith, operators_are_the_tokens p.tokens h.all (one_at at) p.parsed.parsed, tokens_are_apart text p.tokens p.read at))
     (λ at. operators_are_the_trees text h.all (one_at at)))
 
 calls_once : (m : Pos → ℕ) → ((at : Pos) → m at ≤ 1) → (o : Option BodyTree) → ((at : Pos) → IfSome o (λ (b : BodyTree). in_calls (one_at at) b.calls ≤ m at)) → IfSome o HasCallsApart
@@ -44,7 +44,7 @@ pub calls_are_apart : CallsOfTextsAreApart
 calls_are_apart text u h =
     let p = h.parsed in
     subst CallsAreApart (sym h.unit)
-    (calls_apart (unit_of (checked noted None text h.all)) (λ at. in_externals (one_at at) h.all) (λ at. omega (arith, operators_are_the_tokens p.tokens h.all (one_at at) p.parsed.parsed, tokens_are_apart text p.tokens p.read at))
+    (calls_apart (unit_of (checked noting None text h.all)) (λ at. in_externals (one_at at) h.all) (λ at. omega (arith, operators_are_the_tokens p.tokens h.all (one_at at) p.parsed.parsed, tokens_are_apart text p.tokens p.read at))
     (λ at. calls_are_the_trees text h.all (one_at at)))
 
 pub accesses_of_texts_are_apart : AccessesOfTextsAreApart

@@ -8,17 +8,17 @@ use Rattle.pk_ast.specs.declared.units.Storage.{Storage}
 use Rattle.pk_typed.specs.Trees as tree
 use Rattle.pk_typed.specs.Trees.{BodyTree}
 use Rattle.pk_type_scope.specs.declared.declarations.Typing.{Typing}
-use Rattle.pk_type_scope.specs.Failures.{noted}
 use Rattle.pk_type_scope.specs.Specifiers.{type_named}
 use Rattle.pk_type_declaration.specs.declared.words.Words.{Words}
 use Rattle.pk_type_declaration.specs.Enumerations.{words_at, after_words}
-use Rattle.pk_type_declaration.specs.Walks.{Walked, Adding, here, entering}
+use Rattle.pk_type_declaration.specs.Walks.{Walked, here, entering}
 use Rattle.pk_type_jump.specs.Labels.{labels_of}
 use Rattle.pk_type_statement.specs.Trees.{typed_items}
 use Rattle.pk_type.specs.Files as files
-use Rattle.pk_type.specs.Files.{EntryTree, Filed}
+use Rattle.pk_type.specs.Files.{EntryTree, Filed, UnitChecks}
 use Rattle.pk_type.specs.Functions as functions
 use Rattle.pk_type.specs.Functions.{after_parameters, with_new, body_of, body_at, after_body, before_body, with_body, update_at, number_of, after_optional_body, after_function}
+use Rattle.pk_type.specs.Rules.{noting}
 use Rattle.pk_type.specs.Signatures.{SignatureTree, signature_of}
 use Rattle.pk_type.specs.Units.{after_external, after_externals, nothing_filed, checked, defined_in, no_name, objects_in, function_of}
 use Rattle.pk_access_laws.specs.Operators.{Counting, if_some}
@@ -46,10 +46,10 @@ given_body P (suc n) body (e ∷ es) k z =
     let each = λ (e : EntryTree). IfSome e.body P in
     All-cons each e (update_at n (with_body body) es) (All-head each e es z) (given_body P n body es k (All-tail each e es z))
 
-after_objects : {F : Type 0} (P : BodyTree → Type 0) (add : Adding F) (storage : Option Storage) (words : Words) (ds : List DeclaratorTree) (f : Filed F) → EachBody P f.functions → EachBody P (files.after_objects add storage words ds f).functions
+after_objects : {F : Type 0} (P : BodyTree → Type 0) (c : UnitChecks F) (storage : Option Storage) (words : Words) (ds : List DeclaratorTree) (f : Filed F) → EachBody P f.functions → EachBody P (files.after_objects c storage words ds f).functions
 unfolding files.after_objects files.after_object
-after_objects P add storage words [] f z = z
-after_objects P add storage words (d ∷ ds) f z = after_objects P add storage words ds (files.after_object add storage words d f) z
+after_objects P c storage words [] f z = z
+after_objects P c storage words (d ∷ ds) f z = after_objects P c storage words ds (files.after_object c storage words d f) z
 
 in_unit : (P : BodyTree → Type 0) (es : List EntryTree) → EachBody P es → All (λ (f : tree.FunctionTree). IfSome f.body P) (map function_of es)
 in_unit P [] h = All-nil _
@@ -66,36 +66,36 @@ made_body : {F : Type 0} (q : Counting) (m : ℕ) (b : BlockTree) (visible label
 made_body q m b visible labels w None h = tt
 made_body q m b visible labels w (Some is) h = h
 
-optional_body : {F : Type 0} (q : Counting) (m : ℕ) (add : Adding F) (r : Typing) (n : ℕ) (b : Option BlockTree) (f : Filed F) → block_loops q b ≤ m → EachBody (AtMost q m) f.functions → EachBody (AtMost q m) (after_optional_body add r n b f).functions
-optional_body q m add r n None f h z = z
-optional_body q m add r n (Some b) f h z =
+optional_body : {F : Type 0} (q : Counting) (m : ℕ) (c : UnitChecks F) (r : Typing) (n : ℕ) (b : Option BlockTree) (f : Filed F) → block_loops q b ≤ m → EachBody (AtMost q m) f.functions → EachBody (AtMost q m) (after_optional_body c r n b f).functions
+optional_body q m c r n None f h z = z
+optional_body q m c r n (Some b) f h z =
     let w = f.walked in
     let labels = labels_of w.scoping.text b.items in
-    given_body (AtMost q m) n (body_at add r (length f.objects) b w) f.functions
-    (made_body q m b (length f.objects) labels.count (after_body add r b w) (typed_items add r labels.labels (before_body w) b.items) (omega (arith, items_there q add r labels.labels (before_body w) b.items, h))) z
+    given_body (AtMost q m) n (body_at c r (length f.objects) b w) f.functions
+    (made_body q m b (length f.objects) labels.count (after_body c r b w) (typed_items c.statements r labels.labels (before_body w) b.items) (omega (arith, items_there q c.statements r labels.labels (before_body w) b.items, h))) z
 
-one_function : {F : Type 0} (q : Counting) (m : ℕ) (add : Adding F) (defined : List ℕ → Bool) (f : FunctionTree) (file : Filed F) → block_loops q f.body ≤ m → EachBody (AtMost q m) file.functions → EachBody (AtMost q m) (after_function add defined f file).functions
+one_function : {F : Type 0} (q : Counting) (m : ℕ) (c : UnitChecks F) (defined : List ℕ → Bool) (f : FunctionTree) (file : Filed F) → block_loops q f.body ≤ m → EachBody (AtMost q m) file.functions → EachBody (AtMost q m) (after_function c defined f file).functions
 unfolding after_function
-one_function q m add defined f file h z =
+one_function q m c defined f file h z =
     let n = number_of file.functions (here file.walked f.name) in
-    optional_body q m add (type_named (here file.walked) f.specifiers) n f.body (files.on (after_parameters add f.parameters) (files.on entering (functions.after_head add defined f file))) h
+    optional_body q m c (type_named (here file.walked) f.specifiers) n f.body (files.on (after_parameters c f.parameters) (files.on entering (functions.after_head c defined f file))) h
     (new_entry (AtMost q m) file.functions n _ (signature_of (here file.walked) f) z)
 
-one_external : {F : Type 0} (q : Counting) (m : ℕ) (add : Adding F) (defined : List ℕ → Bool) (x : ExternalTree) (f : Filed F) → external_loops q x ≤ m → EachBody (AtMost q m) f.functions → EachBody (AtMost q m) (after_external add defined x f).functions
+one_external : {F : Type 0} (q : Counting) (m : ℕ) (c : UnitChecks F) (defined : List ℕ → Bool) (x : ExternalTree) (f : Filed F) → external_loops q x ≤ m → EachBody (AtMost q m) f.functions → EachBody (AtMost q m) (after_external c defined x f).functions
 unfolding files.after_declaration
-one_external q m add defined (function g) f h z = one_function q m add defined g f h z
-one_external q m add defined (objects s d) f h z =
-    after_objects (AtMost q m) add s (words_at (here f.walked) d.specifiers d.enumeration) d.declarators (files.on (after_words add d.specifiers d.enumeration) f) z
-one_external q m add defined (type_names d) f h z = z
+one_external q m c defined (function g) f h z = one_function q m c defined g f h z
+one_external q m c defined (objects s d) f h z =
+    after_objects (AtMost q m) c s (words_at (here f.walked) d.specifiers d.enumeration) d.declarators (files.on (after_words c.statements.declarations d.specifiers d.enumeration) f) z
+one_external q m c defined (type_names d) f h z = z
 
-all_externals : {F : Type 0} (q : Counting) (m : ℕ) (add : Adding F) (defined : List ℕ → Bool) (xs : List ExternalTree) (f : Filed F) → all_loops q xs ≤ m → EachBody (AtMost q m) f.functions → EachBody (AtMost q m) (after_externals add defined xs f).functions
+all_externals : {F : Type 0} (q : Counting) (m : ℕ) (c : UnitChecks F) (defined : List ℕ → Bool) (xs : List ExternalTree) (f : Filed F) → all_loops q xs ≤ m → EachBody (AtMost q m) f.functions → EachBody (AtMost q m) (after_externals c defined xs f).functions
 unfolding after_externals
-all_externals q m add defined [] f h z = z
-all_externals q m add defined (x ∷ xs) f h z =
-    all_externals q m add defined xs (after_external add defined x f) (omega (arith, h)) (one_external q m add defined x f (omega (arith, h)) z)
+all_externals q m c defined [] f h z = z
+all_externals q m c defined (x ∷ xs) f h z =
+    all_externals q m c defined xs (after_external c defined x f) (omega (arith, h)) (one_external q m c defined x f (omega (arith, h)) z)
 
 pub loops_are_the_trees : LoopsAreTheTrees
 loops_are_the_trees text xs q =
     let m = all_loops q xs in
-    in_unit (AtMost q m) (checked noted None text xs).functions
-    (all_externals q m noted (defined_in text xs no_name) xs (nothing_filed None text (objects_in xs)) (omega arith) (All-nil _))
+    in_unit (AtMost q m) (checked noting None text xs).functions
+    (all_externals q m noting (defined_in text xs no_name) xs (nothing_filed None text (objects_in xs)) (omega arith) (All-nil _))

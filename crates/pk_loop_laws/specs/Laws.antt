@@ -4,7 +4,7 @@ use Rattle.pk_lex.specs.declared.token.Token.{Token}
 use Rattle.pk_ast.specs.Trees.{ExternalTree}
 use Rattle.pk_grammar.specs.Outcomes.{IsParsed}
 use Rattle.pk_typed.specs.Trees.{BodyTree, FunctionTree, UnitTree}
-use Rattle.pk_type_scope.specs.Failures.{noted}
+use Rattle.pk_type.specs.Rules.{noting}
 use Rattle.pk_type.specs.Units.{checked, unit_of}
 use Rattle.pk_access_laws.specs.Operators.{Counting}
 use Rattle.pk_operator_laws.specs.Trees.{in_tokens}
@@ -20,7 +20,7 @@ LoopsCountAtMost q m u =
 abbrev pub LoopsAreTheTrees : Type 0
 LoopsAreTheTrees =
     (text : List ℕ) (xs : List ExternalTree) (q : Counting) →
-    LoopsCountAtMost q (all_loops q xs) (unit_of (checked noted None text xs))
+    LoopsCountAtMost q (all_loops q xs) (unit_of (checked noting None text xs))
 
 -- And these count no more than the tokens from which they are parsed.
 abbrev pub LoopsAreTheTokens : Type 0

@@ -3,7 +3,7 @@ use Rattle.std.proofs.Common.{ℕ, ◌≤◌, sym, subst, arith}
 use Rattle.std.specs.Prelude.{Option, Some, None, IfSome, slice_index_or}
 use Rattle.pk_ctypes.specs.declared.places.Pos.{Pos}
 use Rattle.pk_typed.specs.Trees.{BodyTree, UnitTree}
-use Rattle.pk_type_scope.specs.Failures.{noted}
+use Rattle.pk_type.specs.Rules.{noting}
 use Rattle.pk_type.specs.Units.{checked, unit_of}
 use Rattle.pk_access_laws.specs.Laws.{one_at}
 use Rattle.pk_access_texts.proofs.Tokens.{tokens_are_apart}
@@ -27,7 +27,7 @@ pub loops_are_apart : LoopsOfTextsAreApart
 loops_are_apart text u h =
     let p = h.parsed in
     subst LoopsAreApart (sym h.unit)
-    (unit_apart (unit_of (checked noted None text h.all)) (λ at. all_loops (one_at at) h.all) (λ at. omega (arith, loops_are_the_tokens p.tokens h.all (one_at at) p.parsed.parsed, tokens_are_apart text p.tokens p.read at))
+    (unit_apart (unit_of (checked noting None text h.all)) (λ at. all_loops (one_at at) h.all) (λ at. omega (arith, loops_are_the_tokens p.tokens h.all (one_at at) p.parsed.parsed, tokens_are_apart text p.tokens p.read at))
     (λ at. loops_are_the_trees text h.all (one_at at)))
 
 pub turns_of_texts_are_apart : TurnsOfTextsAreApart

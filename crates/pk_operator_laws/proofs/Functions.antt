@@ -9,17 +9,17 @@ use Rattle.pk_ast.specs.declared.units.Storage.{Storage}
 use Rattle.pk_typed.specs.Trees as tree
 use Rattle.pk_typed.specs.Trees.{BodyTree}
 use Rattle.pk_type_scope.specs.declared.declarations.Typing.{Typing}
-use Rattle.pk_type_scope.specs.Failures.{noted}
 use Rattle.pk_type_scope.specs.Specifiers.{type_named}
 use Rattle.pk_type_declaration.specs.declared.words.Words.{Words}
 use Rattle.pk_type_declaration.specs.Enumerations.{words_at, after_words}
-use Rattle.pk_type_declaration.specs.Walks.{Walked, Adding, here, entering}
+use Rattle.pk_type_declaration.specs.Walks.{Walked, here, entering}
 use Rattle.pk_type_jump.specs.Labels.{labels_of}
 use Rattle.pk_type_statement.specs.Trees.{typed_items}
 use Rattle.pk_type.specs.Files as files
-use Rattle.pk_type.specs.Files.{EntryTree, Filed}
+use Rattle.pk_type.specs.Files.{EntryTree, Filed, UnitChecks}
 use Rattle.pk_type.specs.Functions as functions
 use Rattle.pk_type.specs.Functions.{after_parameter, after_parameters, with_new, body_of, body_at, after_body, before_body, with_body, update_at, number_of, after_optional_body, after_function}
+use Rattle.pk_type.specs.Rules.{noting}
 use Rattle.pk_type.specs.Signatures.{SignatureTree, signature_of}
 use Rattle.pk_type.specs.Units.{after_external, after_externals, nothing_filed, checked, defined_in, no_name, objects_in, function_of, unit_of}
 use Rattle.pk_access_laws.specs.Operators as made
@@ -43,17 +43,17 @@ record AllPlaced {F : Type 0} (q : Counting) (m : ℕ) (f : Filed F) : Type 0 wh
   pub walked : so_far q f.walked ≤ 0
   pub functions : All (Placed q m) f.functions
 
-parameter_sited : {F : Type 0} (q : Counting) (add : Adding F) (p : ParameterTree) (x : Option Identifier) (w : Walked F) → so_far q (functions.after_parameter_name add p x w) ≤ so_far q w
-parameter_sited q add p None w = omega arith
-parameter_sited q add p (Some x) w = omega arith
+parameter_sited : {F : Type 0} (q : Counting) (c : UnitChecks F) (p : ParameterTree) (x : Option Identifier) (w : Walked F) → so_far q (functions.after_parameter_name c p x w) ≤ so_far q w
+parameter_sited q c p None w = omega arith
+parameter_sited q c p (Some x) w = omega arith
 
-one_sited : {F : Type 0} (q : Counting) (add : Adding F) (p : ParameterTree) (w : Walked F) → so_far q (after_parameter add p w) ≤ so_far q w
-one_sited q add p w = parameter_sited q add p p.name _
+one_sited : {F : Type 0} (q : Counting) (c : UnitChecks F) (p : ParameterTree) (w : Walked F) → so_far q (after_parameter c p w) ≤ so_far q w
+one_sited q c p w = parameter_sited q c p p.name _
 
-parameters_sited : {F : Type 0} (q : Counting) (add : Adding F) (ps : List ParameterTree) (w : Walked F) → so_far q (after_parameters add ps w) ≤ so_far q w
+parameters_sited : {F : Type 0} (q : Counting) (c : UnitChecks F) (ps : List ParameterTree) (w : Walked F) → so_far q (after_parameters c ps w) ≤ so_far q w
 unfolding after_parameters
-parameters_sited q add [] w = omega arith
-parameters_sited q add (p ∷ ps) w = omega (arith, parameters_sited q add ps (after_parameter add p w), one_sited q add p w)
+parameters_sited q c [] w = omega arith
+parameters_sited q c (p ∷ ps) w = omega (arith, parameters_sited q c ps (after_parameter c p w), one_sited q c p w)
 
 new_placed : (q : Counting) (m : ℕ) (es : List EntryTree) (n : ℕ) (name : List ℕ) (s : SignatureTree) → All (Placed q m) es → All (Placed q m) (with_new es n name s)
 new_placed q m es n name s z = chosen (nat_eq n (length es))
@@ -72,62 +72,62 @@ made_placed : {F : Type 0} (q : Counting) (m : ℕ) (b : BlockTree) (visible lab
 made_placed q m b visible labels w None h k = tt
 made_placed q m b visible labels w (Some is) h k = record { operators = h; calls = k }
 
-body_placed : {F : Type 0} (q : Counting) (m : ℕ) (add : Adding F) (r : Typing) (n : ℕ) (b : Option BlockTree) (f : Filed F) → in_block q b ≤ m → AllPlaced q m f → All (Placed q m) (after_optional_body add r n b f).functions
-body_placed q m add r n None f h z = z.functions
-body_placed q m add r n (Some b) f h z =
+body_placed : {F : Type 0} (q : Counting) (m : ℕ) (c : UnitChecks F) (r : Typing) (n : ℕ) (b : Option BlockTree) (f : Filed F) → in_block q b ≤ m → AllPlaced q m f → All (Placed q m) (after_optional_body c r n b f).functions
+body_placed q m c r n None f h z = z.functions
+body_placed q m c r n (Some b) f h z =
     let w = f.walked in
     let labels = labels_of w.scoping.text b.items in
     let here : so_far q w ≤ 0 = z.walked in
-    updated_placed q m n (body_at add r (length f.objects) b w) f.functions
-    (made_placed q m b (length f.objects) labels.count (after_body add r b w) (typed_items add r labels.labels (before_body w) b.items) (omega (arith, items_there q add r labels.labels (before_body w) b.items, h))
-    (omega (arith, items_sited q add r (before_body w) b.items, h, here))) z.functions
+    updated_placed q m n (body_at c r (length f.objects) b w) f.functions
+    (made_placed q m b (length f.objects) labels.count (after_body c r b w) (typed_items c.statements r labels.labels (before_body w) b.items) (omega (arith, items_there q c.statements r labels.labels (before_body w) b.items, h))
+    (omega (arith, items_sited q c.statements r (before_body w) b.items, h, here))) z.functions
 
-function_placed : {F : Type 0} (q : Counting) (m : ℕ) (add : Adding F) (defined : List ℕ → Bool) (f : FunctionTree) (file : Filed F) → in_block q f.body ≤ m → AllPlaced q m file → AllPlaced q m (after_function add defined f file)
+function_placed : {F : Type 0} (q : Counting) (m : ℕ) (c : UnitChecks F) (defined : List ℕ → Bool) (f : FunctionTree) (file : Filed F) → in_block q f.body ≤ m → AllPlaced q m file → AllPlaced q m (after_function c defined f file)
 unfolding after_function
-function_placed q m add defined f file h z =
-    let head = functions.after_head add defined f file in
-    let i = files.on (after_parameters add f.parameters) (files.on entering head) in
+function_placed q m c defined f file h z =
+    let head = functions.after_head c defined f file in
+    let i = files.on (after_parameters c f.parameters) (files.on entering head) in
     let n = number_of file.functions (here file.walked f.name) in
     let before : so_far q (entering head.walked) ≤ 0 = z.walked in
     let within : AllPlaced q m i = record {
-      walked = omega (arith, parameters_sited q add f.parameters (entering head.walked), before);
+      walked = omega (arith, parameters_sited q c f.parameters (entering head.walked), before);
       functions = new_placed q m file.functions n _ (signature_of (here file.walked) f) z.functions;
     } in
-    record { walked = omega arith; functions = body_placed q m add (type_named (here file.walked) f.specifiers) n f.body i h within }
+    record { walked = omega arith; functions = body_placed q m c (type_named (here file.walked) f.specifiers) n f.body i h within }
 
 -- ---- texts
 
-objects_placed : {F : Type 0} (q : Counting) (m : ℕ) (add : Adding F) (storage : Option Storage) (words : Words) (ds : List DeclaratorTree) (f : Filed F) → All (Placed q m) f.functions → All (Placed q m) (files.after_objects add storage words ds f).functions
+objects_placed : {F : Type 0} (q : Counting) (m : ℕ) (c : UnitChecks F) (storage : Option Storage) (words : Words) (ds : List DeclaratorTree) (f : Filed F) → All (Placed q m) f.functions → All (Placed q m) (files.after_objects c storage words ds f).functions
 unfolding files.after_objects files.after_object
-objects_placed q m add storage words [] f z = z
-objects_placed q m add storage words (d ∷ ds) f z = objects_placed q m add storage words ds (files.after_object add storage words d f) z
+objects_placed q m c storage words [] f z = z
+objects_placed q m c storage words (d ∷ ds) f z = objects_placed q m c storage words ds (files.after_object c storage words d f) z
 
-external_placed : {F : Type 0} (q : Counting) (m : ℕ) (add : Adding F) (defined : List ℕ → Bool) (x : ExternalTree) (f : Filed F) → in_external q x ≤ m → AllPlaced q m f → AllPlaced q m (after_external add defined x f)
+external_placed : {F : Type 0} (q : Counting) (m : ℕ) (c : UnitChecks F) (defined : List ℕ → Bool) (x : ExternalTree) (f : Filed F) → in_external q x ≤ m → AllPlaced q m f → AllPlaced q m (after_external c defined x f)
 unfolding files.after_declaration
-external_placed q m add defined (function g) f h z = function_placed q m add defined g f h z
-external_placed q m add defined (objects s d) f h z = record {
+external_placed q m c defined (function g) f h z = function_placed q m c defined g f h z
+external_placed q m c defined (objects s d) f h z = record {
   walked = omega arith;
-  functions = objects_placed q m add s (words_at (here f.walked) d.specifiers d.enumeration) d.declarators (files.on (after_words add d.specifiers d.enumeration) f) z.functions;
+  functions = objects_placed q m c s (words_at (here f.walked) d.specifiers d.enumeration) d.declarators (files.on (after_words c.statements.declarations d.specifiers d.enumeration) f) z.functions;
 }
-external_placed q m add defined (type_names d) f h z = record { walked = omega arith; functions = z.functions }
+external_placed q m c defined (type_names d) f h z = record { walked = omega arith; functions = z.functions }
 
-externals_placed : {F : Type 0} (q : Counting) (m : ℕ) (add : Adding F) (defined : List ℕ → Bool) (xs : List ExternalTree) (f : Filed F) → in_externals q xs ≤ m → AllPlaced q m f → AllPlaced q m (after_externals add defined xs f)
+externals_placed : {F : Type 0} (q : Counting) (m : ℕ) (c : UnitChecks F) (defined : List ℕ → Bool) (xs : List ExternalTree) (f : Filed F) → in_externals q xs ≤ m → AllPlaced q m f → AllPlaced q m (after_externals c defined xs f)
 unfolding after_externals
-externals_placed q m add defined [] f h z = z
-externals_placed q m add defined (x ∷ xs) f h z =
-    externals_placed q m add defined xs (after_external add defined x f) (omega (arith, h)) (external_placed q m add defined x f (omega (arith, h)) z)
+externals_placed q m c defined [] f h z = z
+externals_placed q m c defined (x ∷ xs) f h z =
+    externals_placed q m c defined xs (after_external c defined x f) (omega (arith, h)) (external_placed q m c defined x f (omega (arith, h)) z)
 
 functions_are : (q : Counting) (m : ℕ) (es : List EntryTree) → All (Placed q m) es → All (λ (f : tree.FunctionTree). IfSome f.body (AtMost q m)) (map function_of es)
 functions_are q m [] h = All-nil _
 functions_are q m (e ∷ es) h =
     All-cons (λ (f : tree.FunctionTree). IfSome f.body (AtMost q m)) (function_of e) (map function_of es) (All-head (Placed q m) e es h) (functions_are q m es (All-tail (Placed q m) e es h))
 
-all_told : (text : List ℕ) (xs : List ExternalTree) (q : Counting) → All (λ (f : tree.FunctionTree). IfSome f.body (AtMost q (in_externals q xs))) (unit_of (checked noted None text xs)).functions
+all_told : (text : List ℕ) (xs : List ExternalTree) (q : Counting) → All (λ (f : tree.FunctionTree). IfSome f.body (AtMost q (in_externals q xs))) (unit_of (checked noting None text xs)).functions
 all_told text xs q =
     let m = in_externals q xs in
-    let f = checked noted None text xs in
+    let f = checked noting None text xs in
     let before : AllPlaced q m (nothing_filed None text (objects_in xs)) = record { walked = omega arith; functions = All-nil _ } in
-    functions_are q m f.functions (externals_placed q m noted (defined_in text xs no_name) xs (nothing_filed None text (objects_in xs)) (omega arith) before).functions
+    functions_are q m f.functions (externals_placed q m noting (defined_in text xs no_name) xs (nothing_filed None text (objects_in xs)) (omega arith) before).functions
 
 -- of what a body has two of, one
 each : (A B : BodyTree → Type 0) → ((b : BodyTree) → A b → B b) → (o : Option BodyTree) → IfSome o A → IfSome o B
@@ -136,8 +136,8 @@ each A B f (Some b) h = f b h
 
 pub operators_are_the_trees : OperatorsAreTheTrees
 operators_are_the_trees text xs q =
-    λ k d l. each (AtMost q (in_externals q xs)) (λ (b : BodyTree). made.in_items q b.items ≤ in_externals q xs) (λ b h. h.operators) (slice_index_or (unit_of (checked noted None text xs)).functions k d).body (all_told text xs q k d l)
+    λ k d l. each (AtMost q (in_externals q xs)) (λ (b : BodyTree). made.in_items q b.items ≤ in_externals q xs) (λ b h. h.operators) (slice_index_or (unit_of (checked noting None text xs)).functions k d).body (all_told text xs q k d l)
 
 pub calls_are_the_trees : CallsAreTheTrees
 calls_are_the_trees text xs q =
-    λ k d l. each (AtMost q (in_externals q xs)) (λ (b : BodyTree). in_calls q b.calls ≤ in_externals q xs) (λ b h. h.calls) (slice_index_or (unit_of (checked noted None text xs)).functions k d).body (all_told text xs q k d l)
+    λ k d l. each (AtMost q (in_externals q xs)) (λ (b : BodyTree). in_calls q b.calls ≤ in_externals q xs) (λ b h. h.calls) (slice_index_or (unit_of (checked noting None text xs)).functions k d).body (all_told text xs q k d l)

@@ -4,7 +4,7 @@ use Rattle.pk_lex.specs.declared.token.Token.{Token}
 use Rattle.pk_ast.specs.Trees.{ExternalTree}
 use Rattle.pk_grammar.specs.Outcomes.{IsParsed}
 use Rattle.pk_typed.specs.Trees.{BodyTree, FunctionTree, UnitTree}
-use Rattle.pk_type_scope.specs.Failures.{noted}
+use Rattle.pk_type.specs.Rules.{noting}
 use Rattle.pk_type.specs.Units.{checked, unit_of}
 use Rattle.pk_access_laws.specs.Operators.{Counting, in_items}
 use Rattle.pk_access_laws.specs.Laws.{in_calls}
@@ -18,7 +18,7 @@ CountAtMost q m u = All (λ (f : FunctionTree). IfSome f.body (λ (b : BodyTree)
 abbrev pub OperatorsAreTheTrees : Type 0
 OperatorsAreTheTrees =
     (text : List ℕ) (xs : List ExternalTree) (q : Counting) →
-    CountAtMost q (in_externals q xs) (unit_of (checked noted None text xs))
+    CountAtMost q (in_externals q xs) (unit_of (checked noting None text xs))
 
 -- and their calls
 abbrev pub CallsCountAtMost : Counting → ℕ → UnitTree → Type 0
@@ -29,7 +29,7 @@ CallsCountAtMost q m u =
 abbrev pub CallsAreTheTrees : Type 0
 CallsAreTheTrees =
     (text : List ℕ) (xs : List ExternalTree) (q : Counting) →
-    CallsCountAtMost q (in_externals q xs) (unit_of (checked noted None text xs))
+    CallsCountAtMost q (in_externals q xs) (unit_of (checked noting None text xs))
 
 -- And these count no more than the tokens from which they are parsed.
 abbrev pub OperatorsAreTheTokens : Type 0

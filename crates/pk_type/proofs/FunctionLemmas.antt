@@ -16,13 +16,15 @@ use Rattle.pk_type_scope.specs.Failures.{noted, fails_if}
 use Rattle.pk_type_scope.specs.Scopes.{Scoping, names_in, spelled}
 use Rattle.pk_type_scope.specs.Specifiers.{type_named, word_failures}
 use Rattle.pk_type_declaration.specs.Specials.{special}
-use Rattle.pk_type_declaration.specs.Walks.{Walked, here, entering, failing, after_name}
+use Rattle.pk_type_declaration.specs.Walks.{Walked, here, entering, after_name}
+use Rattle.pk_type_declaration.specs.Rules.{failing}
 use Rattle.pk_type_statement.proofs.KeepLemmas.{Kept, kept_items}
 use Rattle.pk_type.specs.declared.files.Entry.{Entry}
 use Rattle.pk_type.specs.Files.{Filed, on}
-use Rattle.pk_type.specs.Functions.{after_parameter_name, after_parameter, after_parameters, before_body, after_optional_body, number_of, is_redeclared, is_misused, callee_of, and_entry, with_body, update_at, after_head, leaving_function, after_function}
+use Rattle.pk_type.specs.Functions.{after_parameter_name, after_parameter, after_parameters, before_body, after_optional_body, number_of, callee_of, and_entry, with_body, update_at, after_head, leaving_function, after_function}
 use Rattle.pk_type.specs.Signatures.{SignatureTree, signature_of}
 use Rattle.pk_type.specs.Views.{entry_tree}
+use Rattle.pk_type.specs.Rules.{is_redeclared, is_misused, noting}
 
 abbrev State : Type 0
 State = Walked (Option Failure)
@@ -33,32 +35,32 @@ Files = Filed (Option Failure)
 same : (s : Scoping) → Kept s s
 same s = record { text = refl; outer = refl }
 
-kept_name : (p : ParameterTree) (x : Option Identifier) (w : State) → Kept w.scoping (after_parameter_name noted p x w).scoping
+kept_name : (p : ParameterTree) (x : Option Identifier) (w : State) → Kept w.scoping (after_parameter_name noting p x w).scoping
 kept_name p None w = same w.scoping
 kept_name p (Some x) w = record { text = refl; outer = refl }
 
-kept_parameters : (ps : List ParameterTree) (w : State) → Kept w.scoping (after_parameters noted ps w).scoping
+kept_parameters : (ps : List ParameterTree) (w : State) → Kept w.scoping (after_parameters noting ps w).scoping
 unfolding after_parameters
 kept_parameters [] w = same w.scoping
 kept_parameters (p ∷ ps) w =
     let a = kept_name p p.name (failing noted (word_failures (here w) p.specifiers) w) in
-    let b = kept_parameters ps (after_parameter noted p w) in
+    let b = kept_parameters ps (after_parameter noting p w) in
     record { text = b.text ∙ a.text; outer = b.outer ∙ a.outer }
 
-kept_body : (r : Typing) (n : ℕ) (b : Option BlockTree) (f : Files) → Kept f.walked.scoping (after_optional_body noted r n b f).walked.scoping
+kept_body : (r : Typing) (n : ℕ) (b : Option BlockTree) (f : Files) → Kept f.walked.scoping (after_optional_body noting r n b f).walked.scoping
 kept_body r n None f = same f.walked.scoping
-kept_body r n (Some b) f = let k = kept_items noted r (before_body f.walked) b.items in record { text = k.text; outer = k.outer }
+kept_body r n (Some b) f = let k = kept_items noting.statements r (before_body f.walked) b.items in record { text = k.text; outer = k.outer }
 
 -- the scopes at the end of a function: those around it are below it
 pub record Ends (h q : Files) : Type 0 where
   pub outer : q.walked.scoping.outer ≡ h.walked.scoping.outer ++ h.walked.scoping.inner ∷ []
   pub text : q.walked.scoping.text ≡ h.walked.scoping.text
 
-pub ends : (r : Typing) (n : ℕ) (ps : List ParameterTree) (b : Option BlockTree) (h e p q : Files) → e ≡ on entering h → p ≡ on (after_parameters noted ps) e → q ≡ after_optional_body noted r n b p → Ends h q
+pub ends : (r : Typing) (n : ℕ) (ps : List ParameterTree) (b : Option BlockTree) (h e p q : Files) → e ≡ on entering h → p ≡ on (after_parameters noting ps) e → q ≡ after_optional_body noting r n b p → Ends h q
 ends r n ps b h e p q x y z =
     let i : Files = on entering h in
-    let g : Files = on (after_parameters noted ps) i in
-    let k : q ≡ after_optional_body noted r n b g = z ∙ ap (after_optional_body noted r n b) (y ∙ ap (on (after_parameters noted ps)) x) in
+    let g : Files = on (after_parameters noting ps) i in
+    let k : q ≡ after_optional_body noting r n b g = z ∙ ap (after_optional_body noting r n b) (y ∙ ap (on (after_parameters noting ps)) x) in
     let a = kept_parameters ps i.walked in
     let c = kept_body r n b g in
     record { outer = ap (λ f. f.walked.scoping.outer) k ∙ (c.outer ∙ a.outer); text = ap (λ f. f.walked.scoping.text) k ∙ (c.text ∙ a.text) }
@@ -69,14 +71,14 @@ ends_positive h q l =
     let b : length (h.walked.scoping.outer ++ h.walked.scoping.inner ∷ []) ≡ length h.walked.scoping.outer + length (h.walked.scoping.inner ∷ []) = length-append h.walked.scoping.outer (h.walked.scoping.inner ∷ []) in
     omega (arith, a, b)
 
-pub function_step : (has : List ℕ → Bool) (f : FunctionTree) (r : Typing) (n : ℕ) (file h e p q g : Files) → h ≡ after_head noted has f file → n ≡ number_of file.functions (names_in file.walked.scoping f.name) → r ≡ type_named (here file.walked) f.specifiers →
-    e ≡ on entering h → p ≡ on (after_parameters noted f.parameters) e → q ≡ after_optional_body noted r n f.body p → g ≡ leaving_function h q → g ≡ after_function noted has f file
+pub function_step : (has : List ℕ → Bool) (f : FunctionTree) (r : Typing) (n : ℕ) (file h e p q g : Files) → h ≡ after_head noting has f file → n ≡ number_of file.functions (names_in file.walked.scoping f.name) → r ≡ type_named (here file.walked) f.specifiers →
+    e ≡ on entering h → p ≡ on (after_parameters noting f.parameters) e → q ≡ after_optional_body noting r n f.body p → g ≡ leaving_function h q → g ≡ after_function noting has f file
 unfolding after_function
 function_step has f r n file h e p q g a b c x y z k =
     let m = number_of file.functions (names_in file.walked.scoping f.name) in
-    let made : Files → Files = λ v. leaving_function v (after_optional_body noted (type_named (here file.walked) f.specifiers) m f.body (on (after_parameters noted f.parameters) (on entering v))) in
-    k ∙ (ap (leaving_function h) (z ∙ (ap (λ t. after_optional_body noted t n f.body p) c ∙ (ap (λ t. after_optional_body noted (type_named (here file.walked) f.specifiers) t f.body p) b
-    ∙ ap (after_optional_body noted (type_named (here file.walked) f.specifiers) m f.body) (y ∙ ap (on (after_parameters noted f.parameters)) x))))
+    let made : Files → Files = λ v. leaving_function v (after_optional_body noting (type_named (here file.walked) f.specifiers) m f.body (on (after_parameters noting f.parameters) (on entering v))) in
+    k ∙ (ap (leaving_function h) (z ∙ (ap (λ t. after_optional_body noting t n f.body p) c ∙ (ap (λ t. after_optional_body noting (type_named (here file.walked) f.specifiers) t f.body p) b
+    ∙ ap (after_optional_body noting (type_named (here file.walked) f.specifiers) m f.body) (y ∙ ap (on (after_parameters noting f.parameters)) x))))
     ∙ ap made a)
 
 pub entries_push : (xs : List Entry) (x : Entry) → map entry_tree (xs ++ x ∷ []) ≡ map entry_tree xs ++ entry_tree x ∷ []
@@ -87,7 +89,7 @@ pub named_step : (has : List ℕ → Bool) (f : FunctionTree) (file a b g : File
     s ≡ signature_of (here file.walked) f → q ≡ spelled file.walked.scoping.text f.name → odd ≡ special q → before ≡ names_in file.walked.scoping f.name → n ≡ number_of file.functions before →
     r ≡ is_redeclared file.functions s (is_some f.body) before → m ≡ is_misused s odd → d ≡ has q → c ≡ callee_of s d odd →
     a ≡ on (failing noted (word_failures (here file.walked) f.specifiers ++ fails_if r rule.Redeclared f.name.at ++ fails_if m rule.Special f.name.at)) file →
-    b ≡ on (after_name f.name (declared.Function (record { number = n; callee = c }))) a → g ≡ and_entry n (utf8_lossy q) s b → g ≡ after_head noted has f file
+    b ≡ on (after_name f.name (declared.Function (record { number = n; callee = c }))) a → g ≡ and_entry n (utf8_lossy q) s b → g ≡ after_head noting has f file
 named_step has f file a b g s q before odd n r m d c hs hq ho hb hn hr hm hd hc ha hx hg =
     let x = f.name in
     let S = signature_of (here file.walked) f in

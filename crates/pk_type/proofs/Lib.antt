@@ -4,3 +4,4 @@ pub mod SignatureLemmas
 pub mod PlaceLemmas
 pub mod UnitLemmas
 pub mod FunctionLemmas
+pub mod BareLemmas

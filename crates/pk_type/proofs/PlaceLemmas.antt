@@ -6,8 +6,9 @@ use Rattle.pk_ctypes.specs.declared.places.Pos.{Pos}
 use Rattle.pk_ctypes.specs.declared.words.Rule.{Rule}
 use Rattle.pk_type_scope.specs.declared.failures.Failure.{Failure}
 use Rattle.pk_type_scope.specs.Failures.{noted, fails_if}
-use Rattle.pk_type_declaration.specs.Walks.{Walked, failing}
-use Rattle.pk_type.specs.Functions.{each_at}
+use Rattle.pk_type_declaration.specs.Walks.{Walked}
+use Rattle.pk_type_declaration.specs.Rules.{failing}
+use Rattle.pk_type.specs.Rules.{each_at}
 
 abbrev State : Type 0
 State = Walked (Option Failure)

@@ -13,9 +13,11 @@ use Rattle.pk_type_scope.specs.Failures.{noted}
 use Rattle.pk_type_scope.specs.Specifiers.{type_named, word_failures}
 use Rattle.pk_type_declaration.specs.declared.words.Words.{Words}
 use Rattle.pk_type_declaration.specs.Declarations.{words_of, after_object}
-use Rattle.pk_type_declaration.specs.Walks.{Walked, here, failing}
+use Rattle.pk_type_declaration.specs.Walks.{Walked, here}
+use Rattle.pk_type_declaration.specs.Rules.{failing}
 use Rattle.pk_type.specs.Functions.{after_parameter_name, after_parameter, after_parameters}
 use Rattle.pk_type.specs.Signatures.{types_of}
+use Rattle.pk_type.specs.Rules.{noting}
 
 pub next : (ps : List Parameter) (i : ℕ) (p : Parameter) → i < length ps → p ≡ get_or ps i p → parameter_trees (drop i ps) ≡ parameter_tree p ∷ parameter_trees (drop (i + 1) ps)
 next ps i p h is = rw add-one (ap parameter_trees (drop-cons ps i p h ∙ ap (λ z. z ∷ drop (suc i) ps) (sym is)))
@@ -34,18 +36,18 @@ types_done d now xs all p h = sym (append-nil xs) ∙ (ap (λ n. xs ++ types_of 
 abbrev State : Type 0
 State = Walked (Option Failure)
 
-pub parameters_step : (w v all : State) (now rest : List ParameterTree) (p : ParameterTree) → now ≡ p ∷ rest → v ≡ after_parameter noted p w → after_parameters noted now w ≡ all → after_parameters noted rest v ≡ all
+pub parameters_step : (w v all : State) (now rest : List ParameterTree) (p : ParameterTree) → now ≡ p ∷ rest → v ≡ after_parameter noting p w → after_parameters noting now w ≡ all → after_parameters noting rest v ≡ all
 unfolding after_parameters
-parameters_step w v all now rest p q s h = ap (after_parameters noted rest) s ∙ (ap (λ n. after_parameters noted n w) (sym q) ∙ h)
+parameters_step w v all now rest p q s h = ap (after_parameters noting rest) s ∙ (ap (λ n. after_parameters noting n w) (sym q) ∙ h)
 
-pub parameters_done : (w all : State) (now : List ParameterTree) → now ≡ [] → after_parameters noted now w ≡ all → w ≡ all
+pub parameters_done : (w all : State) (now : List ParameterTree) → now ≡ [] → after_parameters noting now w ≡ all → w ≡ all
 unfolding after_parameters
-parameters_done w all now p h = ap (λ n. after_parameters noted n w) (sym p) ∙ h
+parameters_done w all now p h = ap (λ n. after_parameters noting n w) (sym p) ∙ h
 
 -- a parameter with a name, step by step
 pub named_step : (p : ParameterTree) (x : Identifier) (words : Words) (w v end : State) → p.name ≡ Some x → v ≡ failing noted (word_failures (here w) p.specifiers) w →
-    words ≡ words_of (here v) p.specifiers → end ≡ after_object noted words false None x v → end ≡ after_parameter noted p w
+    words ≡ words_of (here v) p.specifiers → end ≡ after_object noting.statements.declarations words false None x v → end ≡ after_parameter noting p w
 named_step p x words w v end named noted_words told declared =
-    declared ∙ ap (λ (t : Words). after_object noted t false None x v) told
-    ∙ ap (λ (n : Option Identifier). after_parameter_name noted p n v) (sym named)
-    ∙ ap (after_parameter_name noted p p.name) noted_words
+    declared ∙ ap (λ (t : Words). after_object noting.statements.declarations t false None x v) told
+    ∙ ap (λ (n : Option Identifier). after_parameter_name noting p n v) (sym named)
+    ∙ ap (after_parameter_name noting p p.name) noted_words

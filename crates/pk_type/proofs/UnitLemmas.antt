@@ -7,9 +7,9 @@ use Rattle.pk_ast.specs.declared.units.External.{External}
 use Rattle.pk_ast.specs.Trees.{ExternalTree}
 use Rattle.pk_ast.specs.Views.{external_tree, external_trees}
 use Rattle.pk_type_scope.specs.declared.failures.Failure.{Failure}
-use Rattle.pk_type_scope.specs.Failures.{noted}
 use Rattle.pk_type.specs.Files.{Filed}
 use Rattle.pk_type.specs.Units.{and_defined, defined_in, objects_of, objects_in, after_external, after_externals}
+use Rattle.pk_type.specs.Rules.{noting}
 
 pub next : (xs : List External) (i : ℕ) (x : External) → i < length xs → x ≡ get_or xs i x → external_trees (drop i xs) ≡ external_tree x ∷ external_trees (drop (i + 1) xs)
 next xs i x h is = rw add-one (ap external_trees (drop-cons xs i x h ∙ ap (λ z. z ∷ drop (suc i) xs) (sym is)))
@@ -31,13 +31,13 @@ defined_done text has all now p h = ap (λ n. defined_in text n has) (sym p) ∙
 abbrev Files : Type 0
 Files = Filed (Option Failure)
 
-pub externals_step : (has : Names) (f g all : Files) (now rest : List ExternalTree) (x : ExternalTree) → now ≡ x ∷ rest → g ≡ after_external noted has x f → after_externals noted has now f ≡ all → after_externals noted has rest g ≡ all
+pub externals_step : (has : Names) (f g all : Files) (now rest : List ExternalTree) (x : ExternalTree) → now ≡ x ∷ rest → g ≡ after_external noting has x f → after_externals noting has now f ≡ all → after_externals noting has rest g ≡ all
 unfolding after_externals
-externals_step has f g all now rest x p q h = ap (after_externals noted has rest) q ∙ (ap (λ n. after_externals noted has n f) (sym p) ∙ h)
+externals_step has f g all now rest x p q h = ap (after_externals noting has rest) q ∙ (ap (λ n. after_externals noting has n f) (sym p) ∙ h)
 
-pub externals_done : (has : Names) (f all : Files) (now : List ExternalTree) → now ≡ [] → after_externals noted has now f ≡ all → f ≡ all
+pub externals_done : (has : Names) (f all : Files) (now : List ExternalTree) → now ≡ [] → after_externals noting has now f ≡ all → f ≡ all
 unfolding after_externals
-externals_done has f all now p h = ap (λ n. after_externals noted has n f) (sym p) ∙ h
+externals_done has f all now p h = ap (λ n. after_externals noting has n f) (sym p) ∙ h
 
 pub count_step : (n m all : ℕ) (now rest : List ExternalTree) (x : ExternalTree) → now ≡ x ∷ rest → m ≡ n + objects_of x → n + objects_in now ≡ all → m + objects_in rest ≡ all
 unfolding objects_in

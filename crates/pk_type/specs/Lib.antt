@@ -3,4 +3,6 @@ pub mod Files
 pub mod Functions
 pub mod TypeNames
 pub mod Units
+pub mod Rules
 pub mod Views
+pub mod Laws

@@ -6,8 +6,7 @@ use Rattle.pk_typed.specs.Trees as typed
 use Rattle.pk_typed.specs.Trees.{UnitTree}
 use Rattle.pk_type_scope.specs.Scopes.{spelled, file_scope}
 use Rattle.pk_type_declaration.specs.Declarations.{integer_in, type_or_int}
-use Rattle.pk_type_declaration.specs.Walks.{Adding}
-use Rattle.pk_type.specs.Files.{EntryTree, Filed, on, without_calls, after_declaration}
+use Rattle.pk_type.specs.Files.{EntryTree, Filed, UnitChecks, on, without_calls, after_declaration}
 use Rattle.pk_type.specs.Functions.{after_function}
 use Rattle.pk_type.specs.TypeNames.{after_typedef}
 
@@ -27,14 +26,14 @@ unfoldable pub defined_in : List ℕ → List ExternalTree → (List ℕ → Boo
 defined_in text [] has = has
 defined_in text (x ∷ xs) has = defined_in text xs (and_defined text x has)
 
-abbrev pub after_external : {F : Type 0} → Adding F → (List ℕ → Bool) → ExternalTree → Filed F → Filed F
-after_external add defined (function g) f = after_function add defined g f
-after_external add defined (objects storage d) f = after_declaration add storage d f
-after_external add defined (type_names d) f = without_calls (on (after_typedef add d) f)
+abbrev pub after_external : {F : Type 0} → UnitChecks F → (List ℕ → Bool) → ExternalTree → Filed F → Filed F
+after_external c defined (function g) f = after_function c defined g f
+after_external c defined (objects storage d) f = after_declaration c storage d f
+after_external c defined (type_names d) f = without_calls (on (after_typedef c.statements.declarations d) f)
 
-unfoldable pub after_externals : {F : Type 0} → Adding F → (List ℕ → Bool) → List ExternalTree → Filed F → Filed F
-after_externals add defined [] f = f
-after_externals add defined (x ∷ xs) f = after_externals add defined xs (after_external add defined x f)
+unfoldable pub after_externals : {F : Type 0} → UnitChecks F → (List ℕ → Bool) → List ExternalTree → Filed F → Filed F
+after_externals c defined [] f = f
+after_externals c defined (x ∷ xs) f = after_externals c defined xs (after_external c defined x f)
 
 abbrev pub objects_of : ExternalTree → ℕ
 objects_of (function f) = 0
@@ -62,9 +61,9 @@ nothing_filed found text n =
     }
 
 -- a text from its beginning to its end, where nothing was found before
-abbrev pub checked : {F : Type 0} → Adding F → F → List ℕ → List ExternalTree → Filed F
-checked add found text trees =
-    after_externals add (defined_in text trees no_name) trees (nothing_filed found text (objects_in trees))
+abbrev pub checked : {F : Type 0} → UnitChecks F → F → List ℕ → List ExternalTree → Filed F
+checked c found text trees =
+    after_externals c (defined_in text trees no_name) trees (nothing_filed found text (objects_in trees))
 
 abbrev pub function_of : EntryTree → typed.FunctionTree
 function_of e =

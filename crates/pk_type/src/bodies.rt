@@ -5,12 +5,14 @@ ghost use Rattle.pk_ast.specs.Views.{block_tree};
 ghost use Rattle.pk_typed.specs.Views.{item_trees, body_tree};
 ghost use Rattle.pk_type_scope.specs.Failures.{noted};
 ghost use Rattle.pk_type_declaration.specs.Views.{walked_in};
-ghost use Rattle.pk_type_declaration.specs.Walks as walks;
+ghost use Rattle.pk_type_declaration.specs.Rules.{failing};
 ghost use Rattle.pk_type_jump.specs.Labels.{labels_of};
 ghost use Rattle.pk_type_jump.specs.Views.{listed_in, jumped_in};
 ghost use Rattle.pk_type_statement.specs.Trees.{typed_items};
 ghost use Rattle.pk_type_statement.specs.Views.{passed_in};
+ghost use Rattle.pk_type.specs.Rules as rules;
 ghost use Rattle.pk_type.specs.Functions as definitions;
+ghost use Rattle.pk_type.specs.Rules.{noting};
 
 use pk_ast::Block;
 use pk_ctypes::{Pos, Rule};
@@ -23,7 +25,7 @@ use std::alloc::{AllocError, Global};
 use std::mem;
 
 fn note_all(walk: &mut Walk<'_>, rule: Rule, places: &[Pos])
-    ensures { walked_in walk.new ≡ walks.failing noted (definitions.each_at rule places.now) (walked_in walk.old) }
+    ensures { walked_in walk.new ≡ failing noted (rules.each_at rule places.now) (walked_in walk.old) }
 {
     for at in places {
         walk.fail_if(true, rule, *at);
@@ -34,7 +36,7 @@ fn note_all(walk: &mut Walk<'_>, rule: Rule, places: &[Pos])
 #[tactic(auto, using(pk_type_statement::proofs::CaseLemmas::failing_twice))]
 fn note_jumps(walk: &mut Walk<'_>, labels: &Labels<'_>, jumps: &Jumps)
     ensures { walked_in walk.new
-        ≡ walks.failing noted (definitions.about_jumps (listed_in labels.now) (jumped_in jumps.now))
+        ≡ failing noted (rules.about_jumps (listed_in labels.now) (jumped_in jumps.now))
         (walked_in walk.old) }
 {
     note_all(walk, Rule::Label, &labels.repeated);
@@ -65,12 +67,12 @@ fn walked_body(
     block: &Block,
 ) -> Result<Checked, AllocError>
     ensures walked { OnOk result (walked_in to.new.walk
-        ≡ definitions.after_body noted returns (block_tree block.now) (walked_in to.old.walk)) }
+        ≡ definitions.after_body noting returns (block_tree block.now) (walked_in to.old.walk)) }
     ensures labels { IfOk result (λ r. r.labels
         ≡ (labels_of (walked_in to.old.walk).scoping.text (block_tree block.now).items).count) }
     ensures items { let labels = labels_of (walked_in to.old.walk).scoping.text (block_tree block.now).items in
         IfOk result (λ r. option_map (λ v. item_trees v.items) r.items
-        ≡ typed_items noted returns labels.labels (definitions.before_body (walked_in to.old.walk))
+        ≡ typed_items noting.statements returns labels.labels (definitions.before_body (walked_in to.old.walk))
         (block_tree block.now).items) }
 {
     let text = to.walk.scope.text;
@@ -130,9 +132,9 @@ pub(crate) fn body(
     block: &Block,
 ) -> Result<Option<Body>, AllocError>
     ensures walked { OnOk result (walked_in to.new.walk
-        ≡ definitions.emptied (definitions.after_body noted returns (block_tree block.now) (walked_in to.old.walk))) }
+        ≡ definitions.emptied (definitions.after_body noting returns (block_tree block.now) (walked_in to.old.walk))) }
     ensures body { IfOk result (λ b. option_map body_tree b
-        ≡ definitions.body_at noted returns visible (block_tree block.now) (walked_in to.old.walk)) }
+        ≡ definitions.body_at noting returns visible (block_tree block.now) (walked_in to.old.walk)) }
 {
     let checked = walked_body(to, alloc, returns, block)?;
     Ok(taken(to, alloc, visible, block, checked))

@@ -9,9 +9,12 @@ ghost use Rattle.pk_type_declaration.specs.Declarations.{length_or_1, length_at}
 ghost use Rattle.pk_type_declaration.specs.Enumerations.{after_words};
 ghost use Rattle.pk_type_declaration.specs.Views.{walked_in};
 ghost use Rattle.pk_type_declaration.specs.Walks as walks;
+ghost use Rattle.pk_type_declaration.specs.Rules.{failing};
+ghost use Rattle.pk_type.specs.Rules as rules;
 ghost use Rattle.pk_type.specs.Files as definitions;
 ghost use Rattle.pk_type.specs.Units.{nothing_filed};
 ghost use Rattle.pk_type.specs.Views.{filed_in};
+ghost use Rattle.pk_type.specs.Rules.{noting};
 
 use crate::signatures::Signature;
 use pk_ast::{
@@ -44,7 +47,7 @@ pub struct File<'a> {
 }
 
 fn is_extern(storage: &Option<Storage>) -> bool
-    ensures { result ≡ definitions.is_extern storage.now }
+    ensures { result ≡ rules.is_extern storage.now }
 {
     match storage {
         None => false,
@@ -66,7 +69,7 @@ fn note_rows(
     at: Pos,
 )
     ensures { walked_in walk.new
-        ≡ walks.failing noted (fails_if is_again rule.Redeclared at ++ fails_if is_extern rule.Extern at
+        ≡ failing noted (fails_if is_again rule.Redeclared at ++ fails_if is_extern rule.Extern at
         ++ fails_if is_void rule.Void at ++ fails_if is_special rule.Special at) (walked_in walk.old) }
 {
     walk.fail_if(is_again, Rule::Redeclared, at);
@@ -121,7 +124,7 @@ impl<'a> File<'a> {
         d: &Declarator,
     ) -> Result<Option<usize>, AllocError>
         ensures walked { OnOk result (walked_in self.new.to.walk
-            ≡ definitions.after_head noted storage.now words (declarator_tree d.now) (filed_in self.old)) }
+            ≡ definitions.after_head noting storage.now words (declarator_tree d.now) (filed_in self.old)) }
         ensures objects { self.new.objects ≡ self.old.objects }
         ensures functions { self.new.functions ≡ self.old.functions }
         ensures length { IfOk result (λ n. n
@@ -156,7 +159,7 @@ impl<'a> File<'a> {
         d: &Declarator,
     ) -> Result<(), AllocError>
         ensures { OnOk result (filed_in self.new
-            ≡ definitions.after_object noted storage.now words (declarator_tree d.now) (filed_in self.old)) }
+            ≡ definitions.after_object noting storage.now words (declarator_tree d.now) (filed_in self.old)) }
     {
         let name = Name::new(alloc, spelling(self.to.walk.scope.text, d.name))?;
         let int_type = type_or_int(words.typing);
@@ -172,7 +175,7 @@ impl<'a> File<'a> {
 
     pub(crate) fn note_words(&mut self, words: &Specifiers)
         ensures { filed_in self.new
-            ≡ definitions.on (walks.failing noted (word_failures (walks.here (filed_in self.old).walked)
+            ≡ definitions.on (failing noted (word_failures (walks.here (filed_in self.old).walked)
             (specifiers_tree words.now))) (filed_in self.old) }
     {
         self.to.walk.note_words(words);
@@ -186,7 +189,7 @@ impl<'a> File<'a> {
         enumeration: &Option<Box<Enumeration>>,
     ) -> Result<(), AllocError>
         ensures { OnOk result (filed_in self.new
-            ≡ definitions.on (after_words noted (specifiers_tree words.now)
+            ≡ definitions.on (after_words noting.statements.declarations (specifiers_tree words.now)
             (braces_tree enumeration.now)) (filed_in self.old)) }
     {
         self.to.walk.file_words(alloc, words, enumeration)
@@ -207,7 +210,7 @@ impl<'a> File<'a> {
         list: &[Declarator],
     ) -> Result<(), AllocError>
         ensures { OnOk result (filed_in self.new
-            ≡ definitions.after_objects noted storage.now words (declarator_trees list.now) (filed_in self.old)) }
+            ≡ definitions.after_objects noting storage.now words (declarator_trees list.now) (filed_in self.old)) }
     {
         for d in list {
             self.declarator(alloc, storage, words, d)?;
@@ -223,7 +226,7 @@ impl<'a> File<'a> {
         d: &ObjectDeclaration,
     ) -> Result<(), AllocError>
         ensures { OnOk result (filed_in self.new
-            ≡ definitions.after_declaration noted storage.now (declaration_tree d.now) (filed_in self.old)) }
+            ≡ definitions.after_declaration noting storage.now (declaration_tree d.now) (filed_in self.old)) }
     {
         let words = Words::at(&self.to.walk.scope, &d.specifiers, &d.enumeration);
         self.words(alloc, &d.specifiers, &d.enumeration)?;

@@ -11,10 +11,13 @@ ghost use Rattle.pk_type_scope.specs.Scopes.{names_in};
 ghost use Rattle.pk_type_scope.specs.Specifiers.{type_named, word_failures};
 ghost use Rattle.pk_type_declaration.specs.Views.{walked_in};
 ghost use Rattle.pk_type_declaration.specs.Walks as walks;
+ghost use Rattle.pk_type_declaration.specs.Rules.{failing};
+ghost use Rattle.pk_type.specs.Rules as rules;
 ghost use Rattle.pk_type.specs.Files as files;
 ghost use Rattle.pk_type.specs.Files.{Filed};
 ghost use Rattle.pk_type.specs.Functions as definitions;
 ghost use Rattle.pk_type.specs.Views.{defined_names, filed_in, entry_tree, signature_tree};
+ghost use Rattle.pk_type.specs.Rules.{noting};
 
 use crate::bodies::body;
 use crate::defined::Defined;
@@ -51,7 +54,7 @@ fn callee_of(signature: &Signature, is_defined: bool, special: Option<Callee>) -
 }
 
 fn is_misused(signature: &Signature, special: Option<Callee>) -> bool
-    ensures { result ≡ definitions.is_misused (signature_tree signature.now) special }
+    ensures { result ≡ rules.is_misused (signature_tree signature.now) special }
 {
     match special {
         None => false,
@@ -62,7 +65,8 @@ fn is_misused(signature: &Signature, special: Option<Callee>) -> bool
 // A parameter without a name.
 #[tactic(auto, unfolding(pk_ast::specs::Views::parameter_tree, pk_typed::specs::Views::local_tree))]
 fn unnamed(walk: &mut Walk<'_>, p: &Parameter) -> Result<(), AllocError>
-    ensures { OnOk result (walked_in walk.new ≡ definitions.unnamed noted (parameter_tree p.now) (walked_in walk.old)) }
+    ensures { OnOk result
+        (walked_in walk.new ≡ definitions.unnamed noting (parameter_tree p.now) (walked_in walk.old)) }
 {
     let typing = type_named(&walk.scope, &p.specifiers);
     walk.fail_if(typing.is_void(), Rule::Void, p.specifiers.first.at);
@@ -77,7 +81,7 @@ fn unnamed(walk: &mut Walk<'_>, p: &Parameter) -> Result<(), AllocError>
 #[tactic(auto, unfolding(pk_ast::specs::Views::parameter_tree))]
 fn parameter(walk: &mut Walk<'_>, alloc: Global, p: &Parameter) -> Result<(), AllocError>
     ensures { OnOk result
-        (walked_in walk.new ≡ definitions.after_parameter noted (parameter_tree p.now) (walked_in walk.old)) }
+        (walked_in walk.new ≡ definitions.after_parameter noting (parameter_tree p.now) (walked_in walk.old)) }
 {
     walk.note_words(&p.specifiers);
     match p.name {
@@ -92,7 +96,7 @@ fn parameter(walk: &mut Walk<'_>, alloc: Global, p: &Parameter) -> Result<(), Al
 
 fn parameters(walk: &mut Walk<'_>, alloc: Global, list: &[Parameter]) -> Result<(), AllocError>
     ensures { OnOk result (walked_in walk.new
-        ≡ definitions.after_parameters noted (parameter_trees list.now) (walked_in walk.old)) }
+        ≡ definitions.after_parameters noting (parameter_trees list.now) (walked_in walk.old)) }
 {
     for p in list {
         parameter(walk, alloc, p)?;
@@ -114,7 +118,7 @@ fn either(a: bool, b: bool) -> bool
 
 // Whether a function is declared again with other types, or defined twice.
 fn changes(signature: &Signature, has_body: bool, entry: Option<&Entry>) -> bool
-    ensures { result ≡ definitions.changes (signature_tree signature.now) has_body
+    ensures { result ≡ rules.changes (signature_tree signature.now) has_body
         (option_map (λ e. entry_tree e.now) entry.entry) }
 {
     match entry {
@@ -134,7 +138,7 @@ impl<'a> File<'a> {
         has_body: bool,
         declared: Option<Declaration>,
     ) -> bool
-        ensures { result ≡ definitions.is_redeclared (filed_in self.now).functions
+        ensures { result ≡ rules.is_redeclared (filed_in self.now).functions
             (signature_tree signature.now) has_body declared }
     {
         match declared {
@@ -189,7 +193,7 @@ impl<'a> File<'a> {
     // Notes what fails at the words and at the name of a function.
     #[tactic(auto, using(pk_type_statement::proofs::CaseLemmas::failing_twice))]
     fn note_rows(&mut self, words: &Specifiers, is_redeclared: bool, is_misused: bool, at: Pos)
-        ensures { filed_in self.new ≡ files.on (walks.failing noted (
+        ensures { filed_in self.new ≡ files.on (failing noted (
             word_failures (walks.here (filed_in self.old).walked) (specifiers_tree words.now)
             ++ fails_if is_redeclared rule.Redeclared at ++ fails_if is_misused rule.Special at)) (filed_in self.old) }
     {
@@ -215,7 +219,7 @@ impl<'a> File<'a> {
     ) -> Result<usize, AllocError>
         requires { returns ≡ type_named (walks.here (filed_in self.old).walked) (specifiers_tree f.now.specifiers) }
         ensures filed { OnOk result (filed_in self.new
-            ≡ definitions.after_head noted (defined_names defined.now) (function_tree f.now) (filed_in self.old)) }
+            ≡ definitions.after_head noting (defined_names defined.now) (function_tree f.now) (filed_in self.old)) }
         ensures number { IfOk result (λ n. n ≡ definitions.number_of (filed_in self.old).functions
             (names_in (filed_in self.old).walked.scoping f.now.name)) }
     {
@@ -253,7 +257,7 @@ impl<'a> File<'a> {
         block: &Option<Block>,
     ) -> Result<(), AllocError>
         ensures { OnOk result (filed_in self.new
-            ≡ definitions.after_optional_body noted returns number (option_map block_tree block.now)
+            ≡ definitions.after_optional_body noting returns number (option_map block_tree block.now)
             (filed_in self.old)) }
     {
         match block {
@@ -275,7 +279,7 @@ impl<'a> File<'a> {
 
     fn parameters(&mut self, alloc: Global, list: &[Parameter]) -> Result<(), AllocError>
         ensures { OnOk result (filed_in self.new
-            ≡ files.on (definitions.after_parameters noted (parameter_trees list.now)) (filed_in self.old)) }
+            ≡ files.on (definitions.after_parameters noting (parameter_trees list.now)) (filed_in self.old)) }
     {
         parameters(&mut self.to.walk, alloc, list)
     }
@@ -301,7 +305,7 @@ impl<'a> File<'a> {
         f: &Function,
     ) -> Result<(), AllocError>
         ensures { OnOk result (filed_in self.new
-            ≡ definitions.after_function noted (defined_names defined.now) (function_tree f.now) (filed_in self.old)) }
+            ≡ definitions.after_function noting (defined_names defined.now) (function_tree f.now) (filed_in self.old)) }
     {
         let returns = type_named(&self.to.walk.scope, &f.specifiers);
         let number = self.named(alloc, defined, returns, f)?;

@@ -5,8 +5,10 @@ mod bodies;
 mod defined;
 mod files;
 mod functions;
+mod laws;
 mod signatures;
 mod type_names;
 mod units;
 
+pub use laws::checks_leave_the_unit;
 pub use units::{Refusal, check};

@@ -3,6 +3,7 @@
 ghost use Rattle.std.specs.Prelude.{◌≡◌, ◌&&◌, ◌||◌, IfOk};
 ghost use Rattle.std.specs.List.{list_any, zip};
 ghost use Rattle.pk_ast.specs.Views.{parameter_trees};
+ghost use Rattle.pk_type.specs.Rules as rules;
 ghost use Rattle.pk_type.specs.Signatures as definitions;
 ghost use Rattle.pk_type.specs.Views.{signature_tree};
 ghost use Rattle.pk_type_scope.specs.Scopes.{names_in, scoping_of};
@@ -20,7 +21,7 @@ pub struct Signature {
 }
 
 fn number_of(int_type: IntType) -> u8
-    ensures { result ≡ definitions.number_of int_type }
+    ensures { result ≡ rules.number_of int_type }
 {
     match int_type {
         IntType::Char => 0,
@@ -39,7 +40,7 @@ fn number_of(int_type: IntType) -> u8
 
 // Whether two types differ. One that a failure leaves out differs from none.
 fn differ(a: Typing, b: Typing) -> bool
-    ensures { result ≡ definitions.differ a b }
+    ensures { result ≡ rules.differ a b }
 {
     match a {
         Typing::Unknown => false,
@@ -57,13 +58,13 @@ fn differ(a: Typing, b: Typing) -> bool
 }
 
 fn some_differ(a: &[Typing], b: &[Typing]) -> bool
-    ensures { result ≡ list_any (λ p. definitions.differ p.0 p.1) (zip a.now b.now) }
+    ensures { result ≡ list_any (λ p. rules.differ p.0 p.1) (zip a.now b.now) }
 {
     a.iter().zip(b.iter()).any(|(t, u)| differ(*t, *u))
 }
 
 fn is_integer(typing: Typing) -> bool
-    ensures { result ≡ definitions.is_integer typing }
+    ensures { result ≡ rules.is_integer typing }
 {
     match typing {
         Typing::Void => false,
@@ -73,7 +74,7 @@ fn is_integer(typing: Typing) -> bool
 }
 
 fn are_integers(list: &[Typing]) -> bool
-    ensures { result ≡ definitions.are_integers list.now }
+    ensures { result ≡ rules.are_integers list.now }
 {
     list.iter().all(|typing| is_integer(*typing))
 }
@@ -92,13 +93,13 @@ fn either(a: bool, b: bool) -> bool
 
 // Whether two lists of types differ in number or somewhere.
 fn all_differ(a: &[Typing], b: &[Typing]) -> bool
-    ensures { result ≡ definitions.all_differ a.now b.now }
+    ensures { result ≡ rules.all_differ a.now b.now }
 {
     either(a.len() != b.len(), some_differ(a, b))
 }
 
 fn returned(callee: Callee) -> Typing
-    ensures { result ≡ definitions.returned callee }
+    ensures { result ≡ rules.returned callee }
 {
     match callee {
         Callee::Ordinary { .. } => Typing::Unknown,
@@ -110,7 +111,7 @@ fn returned(callee: Callee) -> Typing
 }
 
 fn takes_others(list: &[Typing], callee: Callee) -> bool
-    ensures { result ≡ definitions.all_differ list.now (definitions.taken callee) }
+    ensures { result ≡ rules.all_differ list.now (rules.taken callee) }
 {
     match callee {
         Callee::Ordinary { .. } => all_differ(list, &[]),
@@ -152,7 +153,7 @@ impl Signature {
 
     /// Whether its types differ from another's.
     pub fn differs(&self, other: &Signature) -> bool
-        ensures { result ≡ definitions.differs (signature_tree self.now) (signature_tree other.now) }
+        ensures { result ≡ rules.differs (signature_tree self.now) (signature_tree other.now) }
     {
         let are_integers = both(
             are_integers(&self.parameters),
@@ -169,7 +170,7 @@ impl Signature {
 
     /// Whether its types differ from those of a special name.
     pub fn is_wrong(&self, special: Callee) -> bool
-        ensures { result ≡ definitions.is_wrong (signature_tree self.now) special }
+        ensures { result ≡ rules.is_wrong (signature_tree self.now) special }
     {
         let is_wrong = either(
             differ(self.returns, returned(special)),

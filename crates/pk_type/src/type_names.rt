@@ -2,7 +2,7 @@
 
 ghost use Rattle.std.specs.Prelude.{◌≡◌, OnOk};
 ghost use Rattle.pk_ast.specs.Views.{typedef_tree};
-ghost use Rattle.pk_type_scope.specs.Failures.{noted};
+ghost use Rattle.pk_type_declaration.specs.Rules as declarations;
 ghost use Rattle.pk_type_declaration.specs.Views.{walked_in};
 ghost use Rattle.pk_type.specs.Files as files;
 ghost use Rattle.pk_type.specs.TypeNames as definitions;
@@ -27,7 +27,7 @@ fn named_type(words: Words) -> NamedType
 // A declared name.
 fn type_name(walk: &mut Walk<'_>, named: NamedType, name: Identifier) -> Result<(), AllocError>
     ensures { OnOk result
-        (walked_in walk.new ≡ definitions.after_type_name noted named name (walked_in walk.old)) }
+        (walked_in walk.new ≡ definitions.after_type_name declarations.noting named name (walked_in walk.old)) }
 {
     let is_special = special(spelling(walk.scope.text, name)).is_some();
     let is_again = walk.declare(name, Declaration::TypeName(named))?;
@@ -39,7 +39,7 @@ fn type_name(walk: &mut Walk<'_>, named: NamedType, name: Identifier) -> Result<
 // The other names of a declaration.
 fn more(walk: &mut Walk<'_>, named: NamedType, list: &[Identifier]) -> Result<(), AllocError>
     ensures { OnOk result
-        (walked_in walk.new ≡ definitions.after_type_names noted named list.now (walked_in walk.old)) }
+        (walked_in walk.new ≡ definitions.after_type_names declarations.noting named list.now (walked_in walk.old)) }
 {
     for name in list {
         type_name(walk, named, *name)?;
@@ -50,7 +50,7 @@ fn more(walk: &mut Walk<'_>, named: NamedType, list: &[Identifier]) -> Result<()
 // A declaration of type names.
 fn typedef(alloc: Global, walk: &mut Walk<'_>, d: &Typedef) -> Result<(), AllocError>
     ensures { OnOk result
-        (walked_in walk.new ≡ definitions.after_typedef noted (typedef_tree d.now) (walked_in walk.old)) }
+        (walked_in walk.new ≡ definitions.after_typedef declarations.noting (typedef_tree d.now) (walked_in walk.old)) }
 {
     let words = Words::at(&walk.scope, &d.specifiers, &d.enumeration);
     let named = named_type(words);
@@ -64,7 +64,7 @@ impl<'a> File<'a> {
     /// A declaration of type names.
     pub fn typedef(&mut self, alloc: Global, d: &Typedef) -> Result<(), AllocError>
         ensures { OnOk result (filed_in self.new ≡ files.without_calls
-            (files.on (definitions.after_typedef noted (typedef_tree d.now)) (filed_in self.old))) }
+            (files.on (definitions.after_typedef declarations.noting (typedef_tree d.now)) (filed_in self.old))) }
     {
         typedef(alloc, &mut self.to.walk, d)?;
         self.forget_calls(alloc);

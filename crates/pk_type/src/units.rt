@@ -5,10 +5,10 @@ ghost use Rattle.pk_ast.specs.Views as ast;
 ghost use Rattle.pk_ast.specs.Views.{external_tree, external_trees};
 ghost use Rattle.pk_typed.specs.Views.{function_tree, unit_tree};
 ghost use Rattle.pk_type_scope.specs.declared.failures.Failure.{Failure};
-ghost use Rattle.pk_type_scope.specs.Failures.{noted};
 ghost use Rattle.pk_type_declaration.specs.Declarations as declarations;
 ghost use Rattle.pk_type.specs.Units as definitions;
 ghost use Rattle.pk_type.specs.Views.{defined_names, entry_tree, filed_in};
+ghost use Rattle.pk_type.specs.Rules.{noting};
 
 use crate::defined::Defined;
 use crate::files::{Entry, File};
@@ -152,7 +152,8 @@ fn externals(
     list: &[External],
 ) -> Result<(), AllocError>
     ensures { OnOk result (filed_in file.new
-        ≡ definitions.after_externals noted (defined_names defined.now) (external_trees list.now) (filed_in file.old)) }
+        ≡ definitions.after_externals noting (defined_names defined.now) (external_trees list.now)
+        (filed_in file.old)) }
 {
     for one in list {
         external(file, alloc, defined, one)?;
@@ -168,7 +169,7 @@ fn external(
     one: &External,
 ) -> Result<(), AllocError>
     ensures { OnOk result (filed_in file.new
-        ≡ definitions.after_external noted (defined_names defined.now) (external_tree one.now) (filed_in file.old)) }
+        ≡ definitions.after_external noting (defined_names defined.now) (external_tree one.now) (filed_in file.old)) }
 {
     match one {
         External::Function(f) => file.function(alloc, defined, f),
@@ -179,7 +180,7 @@ fn external(
 
 #[tactic(auto, unfolding(pk_ast::specs::Views::unit_tree))]
 fn filed<'a>(alloc: Global, text: &'a [u8], unit: &Unit) -> Result<File<'a>, AllocError>
-    ensures { IfOk result (λ f. filed_in f ≡ definitions.checked noted None text.now (ast.unit_tree unit.now)) }
+    ensures { IfOk result (λ f. filed_in f ≡ definitions.checked noting None text.now (ast.unit_tree unit.now)) }
 {
     let defined = defined(alloc, text, &unit.externals)?;
     let objects = objects_in(&unit.externals)?;
@@ -210,9 +211,9 @@ fn made_in(to: Statements<'_>) -> Vec<FileObject>
 /// The typed tree of a text in which no rule fails; else the first failure: the earliest place, and of the rules that fail there the upper one.
 #[tactic(auto, using(crate::proofs::FileLemmas::objects_append), unfolding(pk_typed::specs::Views::unit_tree))]
 pub fn check(alloc: Global, text: &[u8], unit: &Unit) -> Result<typed::Unit, Refusal>
-    ensures accepted { let f = definitions.checked noted None text.now (ast.unit_tree unit.now) in
+    ensures accepted { let f = definitions.checked noting None text.now (ast.unit_tree unit.now) in
         IfOk result (λ u. (f.walked.found ≡ None) × (unit_tree u ≡ definitions.unit_of f)) }
-    ensures refused { let f = definitions.checked noted None text.now (ast.unit_tree unit.now) in
+    ensures refused { let f = definitions.checked noting None text.now (ast.unit_tree unit.now) in
         IfErr result (λ x. (x ≡ Refusal.Memory) ⊎
         ((failure : Failure) × (f.walked.found ≡ Some failure) × (x ≡ Refusal.Type failure.rule failure.at))) }
 {

@@ -18,6 +18,7 @@ use Rattle.pk_type_expression.proofs.WalkLemmas.{appended, end_values}
 use Rattle.pk_type_declaration.specs.Initializers.{followed_by, item_values, items_values}
 use Rattle.pk_type_declaration.specs.Parts.{joined}
 use Rattle.pk_type_declaration.specs.Walks.{Walked, here, after_value, after_values, value_at, values_at}
+use Rattle.pk_type_declaration.specs.Rules.{noting}
 
 abbrev State : Type 0
 State = Walked (Option Failure)
@@ -71,27 +72,27 @@ same_state w f g c e p q =
     ap (λ x. record { scoping = w.scoping; found = x; calls = c; locals = w.locals; statics = w.statics }) p
     ∙ ap (λ x. record { scoping = w.scoping; found = g; calls = x; locals = w.locals; statics = w.statics }) q
 
-pub walked_followed : (es fs : ExpressionTrees) (w : State) → after_values noted (followed_by es fs) w ≡ after_values noted fs (after_values noted es w)
+pub walked_followed : (es fs : ExpressionTrees) (w : State) → after_values noting (followed_by es fs) w ≡ after_values noting fs (after_values noting es w)
 walked_followed es fs w =
     same_state w _ _ _ _ (ap (noted w.found) (failures_followed (here w) es fs) ∙ noted_append w.found (failures_used (here w) es) (failures_used (here w) fs))
     (ap (λ x. w.calls ++ x) (calls_followed (here w) es fs) ∙ sym (append_assoc w.calls (calls_in_all (here w) es) (calls_in_all (here w) fs)))
 
-pub values_followed : (es fs : ExpressionTrees) (w : State) → values_at w (followed_by es fs) ≡ appended (values_at w es) (values_at (after_values noted es w) fs)
+pub values_followed : (es fs : ExpressionTrees) (w : State) → values_at w (followed_by es fs) ≡ appended (values_at w es) (values_at (after_values noting es w) fs)
 values_followed es fs w =
     typed_followed (here w) (length w.calls) es fs
     ∙ ap (λ n. appended (values_at w es) (typed_all (here w) n fs)) (sym (length-append w.calls (calls_in_all (here w) es)))
 
 -- one value
-pub walked_alone : (e : ExpressionTree) (w v : State) → v ≡ after_value noted e w → v ≡ after_values noted (expression_then e no_expressions) w
+pub walked_alone : (e : ExpressionTree) (w v : State) → v ≡ after_value noting e w → v ≡ after_values noting (expression_then e no_expressions) w
 unfolding failures_used calls_in_all
 walked_alone e w v h =
     h ∙ same_state w _ _ _ _ (ap (noted w.found) (sym (append-nil (used_failures (here w) e)))) (ap (λ x. w.calls ++ x) (sym (append-nil (calls (here w) e))))
 
 -- a row
-pub walked_row : (e : ExpressionTree) (es : ExpressionTrees) (w v u : State) → v ≡ after_value noted e w → u ≡ after_values noted es v → u ≡ after_values noted (expression_then e es) w
+pub walked_row : (e : ExpressionTree) (es : ExpressionTrees) (w v u : State) → v ≡ after_value noting e w → u ≡ after_values noting es v → u ≡ after_values noting (expression_then e es) w
 unfolding failures_used calls_in_all
 walked_row e es w v u p q =
-    q ∙ (ap (after_values noted es) p
+    q ∙ (ap (after_values noting es) p
     ∙ same_state w _ _ _ _ (sym (noted_append w.found (used_failures (here w) e) (failures_used (here w) es))) (append_assoc w.calls (calls (here w) e) (calls_in_all (here w) es)))
 
 -- lists of values, as they lie in memory
@@ -120,20 +121,20 @@ trees_together vs xs ys h =
     ∙ (ap (λ t. appended t (option_map value_trees (items_of ys))) (sym (of_items xs)) ∙ ap (appended (optional_values xs)) (sym (of_items ys)))))
 
 -- items one by one
-pub items_walked : (i : InitializerItemTree) (now rest : List InitializerItemTree) (w v all : State) → now ≡ i ∷ rest → v ≡ after_values noted (item_values i) w → after_values noted (items_values now) w ≡ all → after_values noted (items_values rest) v ≡ all
+pub items_walked : (i : InitializerItemTree) (now rest : List InitializerItemTree) (w v all : State) → now ≡ i ∷ rest → v ≡ after_values noting (item_values i) w → after_values noting (items_values now) w ≡ all → after_values noting (items_values rest) v ≡ all
 items_walked i now rest w v all p q h =
-    ap (after_values noted (items_values rest)) q ∙ (sym (walked_followed (item_values i) (items_values rest) w) ∙ (ap (λ is. after_values noted (items_values is) w) (sym p) ∙ h))
+    ap (after_values noting (items_values rest)) q ∙ (sym (walked_followed (item_values i) (items_values rest) w) ∙ (ap (λ is. after_values noting (items_values is) w) (sym p) ∙ h))
 
-pub items_ended : (now : List InitializerItemTree) (w all : State) → now ≡ [] → after_values noted (items_values now) w ≡ all → w ≡ all
+pub items_ended : (now : List InitializerItemTree) (w all : State) → now ≡ [] → after_values noting (items_values now) w ≡ all → w ≡ all
 unfolding failures_used calls_in_all
-items_ended now w all p h = same_state w _ _ _ _ refl (sym (append-nil w.calls)) ∙ (ap (λ is. after_values noted (items_values is) w) (sym p) ∙ h)
+items_ended now w all p h = same_state w _ _ _ _ refl (sym (append-nil w.calls)) ∙ (ap (λ is. after_values noting (items_values is) w) (sym p) ∙ h)
 
-pub items_typed : (i : InitializerItemTree) (now rest : List InitializerItemTree) (w v : State) (vs is us all : Option ValueTrees) → now ≡ i ∷ rest → v ≡ after_values noted (item_values i) w → is ≡ values_at w (item_values i) → us ≡ appended vs is
+pub items_typed : (i : InitializerItemTree) (now rest : List InitializerItemTree) (w v : State) (vs is us all : Option ValueTrees) → now ≡ i ∷ rest → v ≡ after_values noting (item_values i) w → is ≡ values_at w (item_values i) → us ≡ appended vs is
     → appended vs (values_at w (items_values now)) ≡ all → appended us (values_at v (items_values rest)) ≡ all
 items_typed i now rest w v vs is us all p q r s h =
     ap (λ x. appended us (values_at x (items_values rest))) q
-    ∙ (ap (λ x. appended x (values_at (after_values noted (item_values i) w) (items_values rest))) (s ∙ ap (appended vs) r)
-    ∙ (appended_assoc vs (values_at w (item_values i)) (values_at (after_values noted (item_values i) w) (items_values rest))
+    ∙ (ap (λ x. appended x (values_at (after_values noting (item_values i) w) (items_values rest))) (s ∙ ap (appended vs) r)
+    ∙ (appended_assoc vs (values_at w (item_values i)) (values_at (after_values noting (item_values i) w) (items_values rest))
     ∙ (ap (appended vs) (sym (values_followed (item_values i) (items_values rest) w))
     ∙ (ap (λ x. appended vs (values_at w (items_values x))) (sym p) ∙ h))))
 
@@ -141,10 +142,10 @@ pub items_done : (now : List InitializerItemTree) (w : State) (vs all : Option V
 items_done now w vs all p h = end_values (here w) (length w.calls) (items_values now) vs all (ap items_values p) h
 
 -- the first item, then the others
-pub all_walked : (i : InitializerItemTree) (is : List InitializerItemTree) (w v u : State) → v ≡ after_values noted (item_values i) w → u ≡ after_values noted (items_values is) v → u ≡ after_values noted (items_values (i ∷ is)) w
-all_walked i is w v u p q = q ∙ (ap (after_values noted (items_values is)) p ∙ sym (walked_followed (item_values i) (items_values is) w))
+pub all_walked : (i : InitializerItemTree) (is : List InitializerItemTree) (w v u : State) → v ≡ after_values noting (item_values i) w → u ≡ after_values noting (items_values is) v → u ≡ after_values noting (items_values (i ∷ is)) w
+all_walked i is w v u p q = q ∙ (ap (after_values noting (items_values is)) p ∙ sym (walked_followed (item_values i) (items_values is) w))
 
-pub all_typed : (i : InitializerItemTree) (is : List InitializerItemTree) (w v : State) (xs ys vs : Option ValueTrees) → v ≡ after_values noted (item_values i) w → xs ≡ values_at w (item_values i) → ys ≡ values_at v (items_values is) → vs ≡ appended xs ys
+pub all_typed : (i : InitializerItemTree) (is : List InitializerItemTree) (w v : State) (xs ys vs : Option ValueTrees) → v ≡ after_values noting (item_values i) w → xs ≡ values_at w (item_values i) → ys ≡ values_at v (items_values is) → vs ≡ appended xs ys
     → vs ≡ values_at w (items_values (i ∷ is))
 all_typed i is w v xs ys vs p q r h =
     h ∙ (ap (λ x. appended x ys) q ∙ (ap (appended (values_at w (item_values i))) (r ∙ ap (λ x. values_at x (items_values is)) p) ∙ sym (values_followed (item_values i) (items_values is) w)))
@@ -155,7 +156,7 @@ value_alone vs None h = of_items vs ∙ ap (option_map value_trees) h
 value_alone vs (Some b) h = of_items vs ∙ ap (option_map value_trees) h
 
 -- a value, and others behind it
-pub row_typed : (e : ExpressionTree) (es : ExpressionTrees) (w v : State) (b : Option (Box Value Global)) (xs ys vs : Values) → v ≡ after_value noted e w → option_map (λ x. value_tree x.value) b ≡ value_at w e → items_of xs ≡ option_map (λ x. x.value ∷ []) b
+pub row_typed : (e : ExpressionTree) (es : ExpressionTrees) (w v : State) (b : Option (Box Value Global)) (xs ys vs : Values) → v ≡ after_value noting e w → option_map (λ x. value_tree x.value) b ≡ value_at w e → items_of xs ≡ option_map (λ x. x.value ∷ []) b
     → optional_values ys ≡ values_at v es → items_of vs ≡ joined (items_of xs) (items_of ys) → optional_values vs ≡ values_at w (expression_then e es)
 unfolding typed_all
 row_typed e es w v b xs ys vs p q r s h =
@@ -169,8 +170,8 @@ row_typed e es w v b xs ys vs p q r s h =
     ∙ ap (of_both value_before (value_at w e)) (sym (appended_before (typed_all d (length w.calls + length (calls d e)) es))))))
 
 -- an item that is a value
-pub value_walked : (i : InitializerItemTree) (e : ExpressionTree) (w v : State) → i ≡ item_value e → v ≡ after_value noted e w → v ≡ after_values noted (item_values i) w
-value_walked i e w v is h = walked_alone e w v h ∙ ap (λ x. after_values noted (item_values x) w) (sym is)
+pub value_walked : (i : InitializerItemTree) (e : ExpressionTree) (w v : State) → i ≡ item_value e → v ≡ after_value noting e w → v ≡ after_values noting (item_values i) w
+value_walked i e w v is h = walked_alone e w v h ∙ ap (λ x. after_values noting (item_values x) w) (sym is)
 
 pub value_typed : (i : InitializerItemTree) (e : ExpressionTree) (w : State) (b : Option (Box Value Global)) (vs : Values) → i ≡ item_value e → option_map (λ x. value_tree x.value) b ≡ value_at w e → items_of vs ≡ option_map (λ x. x.value ∷ []) b → optional_values vs ≡ values_at w (item_values i)
 unfolding typed_all

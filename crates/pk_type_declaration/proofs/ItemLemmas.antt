@@ -7,7 +7,7 @@ use Rattle.pk_ast.specs.declared.declarations.InitializerItem.{InitializerItem}
 use Rattle.pk_ast.specs.Places.{first_place_of}
 use Rattle.pk_ast.specs.Trees.{ExpressionTree, InitializerItemTree, item_value}
 use Rattle.pk_ast.specs.Views.{initializer_item_tree, initializer_item_trees}
-use Rattle.pk_type_declaration.specs.Initializers.{first_misfit}
+use Rattle.pk_type_declaration.specs.Rules.{first_misfit}
 
 pub next_item : (list : List InitializerItem) (i : ℕ) (x : InitializerItem) → i < length list → x ≡ get_or list i x → initializer_item_trees (drop i list) ≡ initializer_item_tree x ∷ initializer_item_trees (drop (i + 1) list)
 next_item list i x h is = rw add-one (ap initializer_item_trees (drop-cons list i x h ∙ ap (λ z. z ∷ drop (suc i) list) (sym is)))

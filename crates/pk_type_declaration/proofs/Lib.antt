@@ -6,3 +6,4 @@ pub mod DeclaratorLemmas
 mod StartLemmas
 mod StaticLemmas
 mod EnumerationLemmas
+pub mod BareLemmas

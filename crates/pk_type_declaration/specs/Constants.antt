@@ -1,16 +1,14 @@
 -- The rule on constant expressions, and array lengths.
 use Rattle.std.specs.Prelude.{ℕ, ℤ, pos, Bool, true, false, not, ◌&&◌, ◌||◌, int_le, unsigned_abs, Option, Some, None, if◌then◌else◌}
-use Rattle.pk_ctypes.specs.declared.words.Rule.TheVariants as rule
-use Rattle.pk_ast.specs.Places.{first_place_of}
 use Rattle.pk_ast.specs.Trees.{ExpressionTree}
 use Rattle.pk_typed.specs.Trees.{ValueTree}
-use Rattle.pk_type_scope.specs.Failures.{fails_if}
 use Rattle.pk_type_constant.specs.declared.constants.Constant.{Constant}
 use Rattle.pk_type_constant.specs.declared.constants.Constant.TheVariants.{Number, Faulty, NotConstant}
 use Rattle.pk_type_constant.specs.Constants.{constant_value}
 use Rattle.pk_type_constant.specs.Forms.{is_constant_form}
 use Rattle.pk_type_declaration.specs.declared.constants.Evaluated.{Evaluated}
-use Rattle.pk_type_declaration.specs.Walks.{Walked, Adding, here, failing, after_value, value_at}
+use Rattle.pk_type_declaration.specs.Checks.{DeclarationChecks}
+use Rattle.pk_type_declaration.specs.Walks.{Walked, here, finding, after_value, value_at}
 use Rattle.pk_typed.specs.Limits.{length_limit}
 
 -- what an expression gives, where it has a typed tree
@@ -27,7 +25,7 @@ is_faulty (Number n) = false
 is_faulty (Faulty f) = true
 is_faulty NotConstant = false
 
--- constant: it isn't a constant expression, or it has a fault
+-- it isn't a constant expression, or it has a fault
 abbrev pub is_refused : Evaluated → Bool
 is_refused v = not v.is_form || is_faulty v.constant
 
@@ -39,7 +37,7 @@ is_outside (Number n) = not (is_length n)
 is_outside (Faulty f) = true
 is_outside NotConstant = false
 
--- constant: the length of an array isn't a constant expression, has a fault, or isn't 1 to the limit
+-- it isn't a constant expression, has a fault, or isn't 1 to the limit
 abbrev pub is_refused_length : Evaluated → Bool
 is_refused_length v = not v.is_form || is_outside v.constant
 
@@ -59,11 +57,10 @@ magnitude (Some n) = Some (unsigned_abs n)
 abbrev pub length_in : Evaluated → Option ℕ
 length_in v = if is_refused_length v then None else magnitude (number_of v.constant)
 
--- after an expression that has to be constant; the failure is at its first token
-abbrev pub after_constant : {F : Type 0} → Adding F → ExpressionTree → Walked F → Walked F
-after_constant add e w =
-    failing add (fails_if (is_refused (evaluated w e)) rule.Constant (first_place_of e)) (after_value add e w)
+-- after an expression that has to be constant
+abbrev pub after_constant : {F : Type 0} → DeclarationChecks F → ExpressionTree → Walked F → Walked F
+after_constant c e w = finding (c.constant (evaluated w e) e) (after_value c e w)
 
-abbrev pub after_length : {F : Type 0} → Adding F → ExpressionTree → Walked F → Walked F
-after_length add e w =
-    failing add (fails_if (is_refused_length (evaluated w e)) rule.Constant (first_place_of e)) (after_value add e w)
+-- after the length of an array
+abbrev pub after_length : {F : Type 0} → DeclarationChecks F → ExpressionTree → Walked F → Walked F
+after_length c e w = finding (c.length (evaluated w e) e) (after_value c e w)

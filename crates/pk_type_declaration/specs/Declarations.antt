@@ -1,10 +1,9 @@
 -- Declared objects of a function (C99 6.7, 6.7.8).
-use Rattle.std.specs.Prelude.{ℕ, Bool, true, false, not, is_some, Option, Some, None, option_map, List, [], ◌∷◌, ◌++◌, length, if◌then◌else◌}
+use Rattle.std.specs.Prelude.{ℕ, Bool, true, false, is_some, Option, Some, None, option_map, List, [], ◌∷◌, length, if◌then◌else◌}
 use Rattle.std.specs.Str.Lossy.{utf8_lossy}
 use Rattle.pk_ctypes.specs.declared.places.Pos.{Pos}
 use Rattle.pk_ctypes.specs.declared.types.IntType.{IntType}
 use Rattle.pk_ctypes.specs.declared.types.IntType.TheVariants.{Int}
-use Rattle.pk_ctypes.specs.declared.words.Rule.TheVariants as rule
 use Rattle.pk_ast.specs.declared.declarations.Specifier.{Specifier}
 use Rattle.pk_ast.specs.declared.expressions.Identifier.{Identifier}
 use Rattle.pk_ast.specs.Trees.{OneOrMore, ExpressionTree, InitializerTree, single, braced, DimensionsTree, DeclaratorTree}
@@ -17,17 +16,15 @@ use Rattle.pk_type_scope.specs.declared.declarations.Declaration.TheVariants as 
 use Rattle.pk_type_scope.specs.declared.declarations.Object.{Object}
 use Rattle.pk_type_scope.specs.declared.declarations.Typing.{Typing}
 use Rattle.pk_type_scope.specs.declared.declarations.Typing.TheVariants.{Void, Integer, Unknown}
-use Rattle.pk_type_scope.specs.declared.failures.Failure.{Failure}
-use Rattle.pk_type_scope.specs.Declarations.{Names, is_void}
-use Rattle.pk_type_scope.specs.Failures.{fails_if}
-use Rattle.pk_type_scope.specs.Scopes.{Scoping, declared_here, spelled}
+use Rattle.pk_type_scope.specs.Declarations.{Names}
+use Rattle.pk_type_scope.specs.Scopes.{Scoping, spelled}
 use Rattle.pk_type_scope.specs.Specifiers.{type_named, names_const}
 use Rattle.pk_type_expression.specs.Typed.{of_both}
 use Rattle.pk_type_declaration.specs.declared.words.Words.{Words}
 use Rattle.pk_type_declaration.specs.Constants.{evaluated, length_in, after_length}
-use Rattle.pk_type_declaration.specs.Initializers.{braced_values, first_misfit}
-use Rattle.pk_type_declaration.specs.Specials.{special}
-use Rattle.pk_type_declaration.specs.Walks.{Walked, Adding, failing, after_value, after_values, after_name, with_local, value_at, values_at}
+use Rattle.pk_type_declaration.specs.Checks.{DeclarationChecks}
+use Rattle.pk_type_declaration.specs.Initializers.{braced_values}
+use Rattle.pk_type_declaration.specs.Walks.{Walked, finding, after_value, after_values, after_name, with_local, value_at, values_at}
 
 -- the words of a declaration, as far as its names ask for them
 abbrev pub words_of : Names → OneOrMore Specifier → Words
@@ -56,58 +53,25 @@ object_at words is_array w = declared.Object (object_of words is_array (Local (l
 abbrev pub text_of : Scoping → Identifier → List ℕ
 text_of s x = utf8_lossy (spelled s.text x)
 
--- redeclared: a second declaration in one scope; at the name
-abbrev pub redeclared : Scoping → Identifier → List Failure
-redeclared s x = fails_if (is_some (declared_here s x)) rule.Redeclared x.at
-
--- void: an object of type void; at the name
-abbrev pub void_object : Typing → Pos → List Failure
-void_object t at = fails_if (is_void t) rule.Void at
-
--- special: a special name has other types; an object has. At the name
-abbrev pub special_object : Scoping → Identifier → List Failure
-special_object s x = fails_if (is_some (special (spelled s.text x))) rule.Special x.at
-
--- the rows at the name of a declared object
-abbrev pub at_name : Scoping → Typing → Identifier → List Failure
-at_name s t x = redeclared s x ++ void_object t x.at ++ special_object s x
-
--- array: braces on a scalar, no braces on an array; at the name
-abbrev pub braces : Bool → Option InitializerTree → Pos → List Failure
-braces is_array None at = []
-braces is_array (Some (single e)) at = fails_if is_array rule.Array at
-braces is_array (Some (braced brace is)) at = fails_if (not is_array) rule.Array at
-
-abbrev pub misfit_at : Option Pos → List Failure
-misfit_at None = []
-misfit_at (Some at) = fails_if true rule.Initialiser at
-
--- initialiser: a row, since arrays have one dimension, or more items than the length; at the first of these
-abbrev pub misfit : Option ℕ → Option InitializerTree → List Failure
-misfit None first = []
-misfit (Some n) None = []
-misfit (Some n) (Some (single e)) = []
-misfit (Some n) (Some (braced brace is)) = misfit_at (first_misfit n (is.first ∷ is.more))
-
-abbrev pub after_initializer : {F : Type 0} → Adding F → Option InitializerTree → Walked F → Walked F
-after_initializer add None w = w
-after_initializer add (Some (single e)) w = after_value add e w
-after_initializer add (Some (braced brace is)) w = after_values add (braced_values is) w
+abbrev pub after_initializer : {F : Type 0} → DeclarationChecks F → Option InitializerTree → Walked F → Walked F
+after_initializer c None w = w
+after_initializer c (Some (single e)) w = after_value c e w
+after_initializer c (Some (braced brace is)) w = after_values c (braced_values is) w
 
 -- the length of an array, where it has one; a scalar has none
 abbrev pub length_at : {F : Type 0} → Walked F → Option DimensionsTree → Option ℕ
 length_at w None = None
 length_at w (Some d) = length_in (evaluated w d.length)
 
--- array: the array has rows and columns, for which there are no typed trees; at the name
-abbrev pub after_columns : {F : Type 0} → Adding F → Pos → Option ExpressionTree → Walked F → Walked F
-after_columns add at None w = w
-after_columns add at (Some e) w = failing add (fails_if true rule.Array at) (after_length add e w)
+-- an array may have rows and columns, for which there are no typed trees
+abbrev pub after_columns : {F : Type 0} → DeclarationChecks F → Pos → Option ExpressionTree → Walked F → Walked F
+after_columns c at None w = w
+after_columns c at (Some e) w = finding (c.columns at) (after_length c e w)
 
 -- the dimensions of an object whose name stands at a place
-abbrev pub after_dimensions : {F : Type 0} → Adding F → Pos → Option DimensionsTree → Walked F → Walked F
-after_dimensions add at None w = w
-after_dimensions add at (Some d) w = after_columns add at d.columns (after_length add d.length w)
+abbrev pub after_dimensions : {F : Type 0} → DeclarationChecks F → Pos → Option DimensionsTree → Walked F → Walked F
+after_dimensions c at None w = w
+after_dimensions c at (Some d) w = after_columns c at d.columns (after_length c d.length w)
 
 abbrev pub length_or_1 : Bool → Option ℕ → Option ℕ
 length_or_1 false n = None
@@ -118,30 +82,33 @@ abbrev pub local_of : Typing → Scoping → Bool → Option ℕ → Identifier 
 local_of t s is_array n x =
     record { name = Some (text_of s x); int_type = type_or_int t; length = length_or_1 is_array n }
 
--- the name of an object, in its scope, with the rows at it
-abbrev pub after_object_name : {F : Type 0} → Adding F → Typing → Declaration → Identifier → Walked F → Walked F
-after_object_name add t d x w = after_name x d (failing add (at_name w.scoping t x) w)
+-- the name of an object, in its scope
+abbrev pub after_object_name : {F : Type 0} → DeclarationChecks F → Typing → Declaration → Identifier → Walked F →
+    Walked F
+after_object_name c t d x w = after_name x d (finding (c.object w.scoping t x) w)
 
 -- a declared object
-abbrev pub after_object : {F : Type 0} → Adding F → Words → Bool → Option ℕ → Identifier → Walked F → Walked F
-after_object add words is_array n x w =
+abbrev pub after_object : {F : Type 0} → DeclarationChecks F → Words → Bool → Option ℕ → Identifier → Walked F →
+    Walked F
+after_object c words is_array n x w =
     with_local (local_of words.typing w.scoping is_array n x)
-    (after_object_name add words.typing (object_at words is_array w) x w)
+    (after_object_name c words.typing (object_at words is_array w) x w)
 
 -- a declarator as far as what its name begins with: its dimensions stand outside its scope
-abbrev pub after_head : {F : Type 0} → Adding F → Words → DeclaratorTree → Walked F → Walked F
-after_head add words d w =
+abbrev pub after_head : {F : Type 0} → DeclarationChecks F → Words → DeclaratorTree → Walked F → Walked F
+after_head c words d w =
     let n = length_at w d.dimensions in
-    failing add (braces (is_some d.dimensions) d.initializer d.name.at ++ misfit n d.initializer)
-    (after_object add words (is_some d.dimensions) n d.name (after_dimensions add d.name.at d.dimensions w))
+    finding (c.start n d)
+    (after_object c words (is_some d.dimensions) n d.name (after_dimensions c d.name.at d.dimensions w))
 
 -- what it begins with stands inside its scope
-unfoldable pub after_declarator : {F : Type 0} → Adding F → Words → DeclaratorTree → Walked F → Walked F
-after_declarator add words d w = after_initializer add d.initializer (after_head add words d w)
+unfoldable pub after_declarator : {F : Type 0} → DeclarationChecks F → Words → DeclaratorTree → Walked F → Walked F
+after_declarator c words d w = after_initializer c d.initializer (after_head c words d w)
 
-unfoldable pub after_declarators : {F : Type 0} → Adding F → Words → List DeclaratorTree → Walked F → Walked F
-after_declarators add words [] w = w
-after_declarators add words (d ∷ ds) w = after_declarators add words ds (after_declarator add words d w)
+unfoldable pub after_declarators : {F : Type 0} → DeclarationChecks F → Words → List DeclaratorTree → Walked F →
+    Walked F
+after_declarators c words [] w = w
+after_declarators c words (d ∷ ds) w = after_declarators c words ds (after_declarator c words d w)
 
 -- The typed tree of a declared object, by its number.
 
@@ -159,13 +126,14 @@ array_tree n at (Some (braced brace is)) w =
 abbrev pub object_tree : {F : Type 0} → Bool → ℕ → Pos → Option InitializerTree → Walked F → Option DeclaredTree
 object_tree is_array n at first w = if is_array then array_tree n at first w else scalar_tree n at first w
 
-unfoldable pub declarator_tree_at : {F : Type 0} → Adding F → Words → DeclaratorTree → Walked F → Option DeclaredTree
-declarator_tree_at add words d w =
-    object_tree (is_some d.dimensions) (length w.locals) d.name.at d.initializer (after_head add words d w)
+unfoldable pub declarator_tree_at : {F : Type 0} → DeclarationChecks F → Words → DeclaratorTree → Walked F →
+    Option DeclaredTree
+declarator_tree_at c words d w =
+    object_tree (is_some d.dimensions) (length w.locals) d.name.at d.initializer (after_head c words d w)
 
-unfoldable pub declarator_trees_at : {F : Type 0} → Adding F → Words → List DeclaratorTree → Walked F →
+unfoldable pub declarator_trees_at : {F : Type 0} → DeclarationChecks F → Words → List DeclaratorTree → Walked F →
     Option (List DeclaredTree)
-declarator_trees_at add words [] w = Some []
-declarator_trees_at add words (d ∷ ds) w =
-    of_both (λ t ts. t ∷ ts) (declarator_tree_at add words d w)
-    (declarator_trees_at add words ds (after_declarator add words d w))
+declarator_trees_at c words [] w = Some []
+declarator_trees_at c words (d ∷ ds) w =
+    of_both (λ t ts. t ∷ ts) (declarator_tree_at c words d w)
+    (declarator_trees_at c words ds (after_declarator c words d w))

@@ -1,7 +1,5 @@
 -- What objects begin with (C99 6.7.8): a value, or in braces values and rows of values.
-use Rattle.std.specs.Prelude.{ℕ, zero, suc, Option, Some, None, List, [], ◌∷◌}
-use Rattle.pk_ctypes.specs.declared.places.Pos.{Pos}
-use Rattle.pk_ast.specs.Places.{first_place_of}
+use Rattle.std.specs.Prelude.{Option, Some, None, List, [], ◌∷◌}
 use Rattle.pk_ast.specs.Trees.{OneOrMore, ExpressionTrees, no_expressions, expression_then, InitializerItemTree, item_value, item_row, InitializerTree, single, braced}
 
 -- expressions, and others behind them
@@ -26,10 +24,3 @@ abbrev pub given : Option InitializerTree → ExpressionTrees
 given None = no_expressions
 given (Some (single e)) = expression_then e no_expressions
 given (Some (braced at is)) = braced_values is
-
--- the first item that doesn't fit in n elements of one dimension: a row, at its `{`, or a value too many, at its first token
-abbrev pub first_misfit : ℕ → List InitializerItemTree → Option Pos
-first_misfit n [] = None
-first_misfit n (item_row at e es ∷ is) = Some at
-first_misfit zero (item_value e ∷ is) = Some (first_place_of e)
-first_misfit (suc n) (item_value e ∷ is) = first_misfit n is

@@ -1,3 +1,4 @@
+pub mod Checks
 pub mod Walks
 pub mod Constants
 pub mod Specials
@@ -6,5 +7,6 @@ pub mod Declarations
 pub mod Enumerations
 pub mod Starts
 pub mod Statics
+pub mod Rules
 pub mod Parts
 pub mod Views

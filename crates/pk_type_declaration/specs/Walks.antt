@@ -1,23 +1,21 @@
--- What is known at a place of a function, and how expressions there go on from it. What is found of failures is added to what was found before: as a list of all of them, or as the
--- failure that is answered.
+-- What is known at a place of a function, and how expressions there go on from it. What is found at each form is added to what was found before.
 use Rattle.std.specs.Prelude.{ℕ, List, [], ◌∷◌, ◌++◌, Option, length}
 use Rattle.pk_ast.specs.declared.expressions.Identifier.{Identifier}
 use Rattle.pk_ast.specs.Trees.{ExpressionTree, ExpressionTrees}
 use Rattle.pk_typed.specs.declared.units.CallSite.{CallSite}
 use Rattle.pk_typed.specs.Trees.{LocalTree, FileObjectTree, ValueTree, EffectTree, ValueTrees}
 use Rattle.pk_type_scope.specs.declared.declarations.Declaration.{Declaration}
-use Rattle.pk_type_scope.specs.declared.failures.Failure.{Failure}
 use Rattle.pk_type_scope.specs.Declarations.{Names}
-use Rattle.pk_type_expression.specs.Rules.{failures, used_failures, failures_used}
 use Rattle.pk_type_scope.specs.Scopes.{Scoping, names_in, opened, declaring}
 use Rattle.pk_type_expression.specs.Typed.{typed, typed_all, calls, calls_in_all, value_of, effect_of}
+use Rattle.pk_type_declaration.specs.Checks.{DeclarationChecks}
 
 -- objects that functions declare static: the number of the first, which the file's objects stand before, and those so far
 pub record StaticsTree : Type 0 where
   pub first : ℕ
   pub made : List FileObjectTree
 
--- the scopes around the place, and what stands before it: failures, the function's calls and objects, and static objects
+-- the scopes around the place, and what stands before it: what was found, the function's calls and objects, and static objects
 pub record Walked (F : Type 0) : Type 0 where
   pub scoping : Scoping
   pub found : F
@@ -25,51 +23,47 @@ pub record Walked (F : Type 0) : Type 0 where
   pub locals : List LocalTree
   pub statics : StaticsTree
 
--- what is found after a list of failures
-abbrev pub Adding : Type 0 → Type 0
-Adding F = F → List Failure → F
-
 abbrev pub here : {F : Type 0} → Walked F → Names
 here w = names_in w.scoping
 
--- some failures
-abbrev pub failing : {F : Type 0} → Adding F → List Failure → Walked F → Walked F
-failing add fs w = record {
+-- something is found, or nothing
+abbrev pub finding : {F : Type 0} → (F → F) → Walked F → Walked F
+finding more w = record {
   scoping = w.scoping;
-  found = add w.found fs;
+  found = more w.found;
   calls = w.calls;
   locals = w.locals;
   statics = w.statics;
 }
 
 -- an expression whose value is used
-abbrev pub after_value : {F : Type 0} → Adding F → ExpressionTree → Walked F → Walked F
-after_value add e w =
+abbrev pub after_value : {F : Type 0} → DeclarationChecks F → ExpressionTree → Walked F → Walked F
+after_value c e w =
     record {
       scoping = w.scoping;
-      found = add w.found (used_failures (here w) e);
+      found = c.value (here w) e w.found;
       calls = w.calls ++ calls (here w) e;
       locals = w.locals;
       statics = w.statics;
     }
 
 -- an expression whose value isn't used
-abbrev pub after_effect : {F : Type 0} → Adding F → ExpressionTree → Walked F → Walked F
-after_effect add e w =
+abbrev pub after_effect : {F : Type 0} → DeclarationChecks F → ExpressionTree → Walked F → Walked F
+after_effect c e w =
     record {
       scoping = w.scoping;
-      found = add w.found (failures (here w) e);
+      found = c.effect (here w) e w.found;
       calls = w.calls ++ calls (here w) e;
       locals = w.locals;
       statics = w.statics;
     }
 
 -- expressions whose values are used
-abbrev pub after_values : {F : Type 0} → Adding F → ExpressionTrees → Walked F → Walked F
-after_values add es w =
+abbrev pub after_values : {F : Type 0} → DeclarationChecks F → ExpressionTrees → Walked F → Walked F
+after_values c es w =
     record {
       scoping = w.scoping;
-      found = add w.found (failures_used (here w) es);
+      found = c.values (here w) es w.found;
       calls = w.calls ++ calls_in_all (here w) es;
       locals = w.locals;
       statics = w.statics;

@@ -3,11 +3,12 @@
 ghost use Rattle.std.specs.Prelude.{◌≡◌, ◌||◌, option_map, IfOk, OnOk};
 ghost use Rattle.pk_ast.specs.Views.{expression_tree};
 ghost use Rattle.pk_typed.specs.Views.{value_tree};
-ghost use Rattle.pk_type_scope.specs.Failures.{noted};
+ghost use Rattle.pk_type_declaration.specs.Rules as rules;
 ghost use Rattle.pk_type_declaration.specs.Constants as definitions;
 ghost use Rattle.pk_type_declaration.specs.Enumerations as enumerations;
 ghost use Rattle.pk_type_declaration.specs.Views.{walked_in};
 ghost use Rattle.pk_type_declaration.specs.Walks as walks;
+ghost use Rattle.pk_type_declaration.specs.Rules.{noting};
 
 use crate::enumerations::is_beyond;
 use crate::walk::Walk;
@@ -85,7 +86,7 @@ impl Evaluated {
 
     /// Whether it is no value of an enumerator.
     pub(crate) fn is_refused_enumerator(self) -> bool
-        ensures { result ≡ enumerations.is_refused_enumerator self }
+        ensures { result ≡ rules.is_refused_enumerator self }
     {
         either(self.is_refused(), is_beyond(self.number()))
     }
@@ -127,7 +128,7 @@ impl<'a> Walk<'a> {
         e: &Expression,
     ) -> Result<Evaluated, AllocError>
         ensures walked { OnOk result (walked_in self.new
-            ≡ walks.after_value noted (expression_tree e.now) (walked_in self.old)) }
+            ≡ walks.after_value noting (expression_tree e.now) (walked_in self.old)) }
         ensures evaluated { IfOk result (λ v. v ≡ definitions.evaluated (walked_in self.old) (expression_tree e.now)) }
     {
         let is_form = is_constant_form(&self.scope, e);
@@ -141,7 +142,7 @@ impl<'a> Walk<'a> {
     /// Checks an expression that has to be constant.
     pub fn constant(&mut self, alloc: Global, e: &Expression) -> Result<Evaluated, AllocError>
         ensures walked { OnOk result (walked_in self.new
-            ≡ definitions.after_constant noted (expression_tree e.now) (walked_in self.old)) }
+            ≡ definitions.after_constant noting (expression_tree e.now) (walked_in self.old)) }
         ensures evaluated { IfOk result (λ v. v ≡ definitions.evaluated (walked_in self.old) (expression_tree e.now)) }
     {
         let evaluated = self.evaluate(alloc, e)?;
@@ -152,7 +153,7 @@ impl<'a> Walk<'a> {
     /// Checks the length of an array.
     pub fn length(&mut self, alloc: Global, e: &Expression) -> Result<Option<usize>, AllocError>
         ensures walked { OnOk result (walked_in self.new
-            ≡ definitions.after_length noted (expression_tree e.now) (walked_in self.old)) }
+            ≡ definitions.after_length noting (expression_tree e.now) (walked_in self.old)) }
         ensures length { IfOk result (λ n. n
             ≡ definitions.length_in (definitions.evaluated (walked_in self.old) (expression_tree e.now))) }
     {

@@ -5,11 +5,13 @@ ghost use Rattle.pk_ast.specs.Views.{expression_tree, specifiers_tree, dimension
 ghost use Rattle.pk_typed.specs.Views.{declared_tree, declared_trees};
 ghost use Rattle.pk_type_scope.specs.declared.declarations.Declaration.TheVariants as declared;
 ghost use Rattle.pk_type_scope.specs.Failures.{noted};
+ghost use Rattle.pk_type_declaration.specs.Rules as rules;
 ghost use Rattle.pk_type_declaration.specs.Declarations as definitions;
 ghost use Rattle.pk_type_scope.specs.Specifiers.{word_failures};
 ghost use Rattle.pk_type_declaration.specs.Parts.{joined};
 ghost use Rattle.pk_type_declaration.specs.Views.{walked_in, declared_in};
 ghost use Rattle.pk_type_declaration.specs.Walks as walks;
+ghost use Rattle.pk_type_declaration.specs.Rules.{noting};
 
 use crate::initializers::{first_value, note_braces, note_misfit};
 use crate::parts::Parts;
@@ -31,7 +33,7 @@ impl<'a> Walk<'a> {
         columns: &Option<Expression>,
     ) -> Result<(), AllocError>
         ensures { OnOk result (walked_in self.new
-            ≡ definitions.after_columns noted at (option_map expression_tree columns.now) (walked_in self.old)) }
+            ≡ definitions.after_columns noting at (option_map expression_tree columns.now) (walked_in self.old)) }
     {
         match columns {
             None => Ok(()),
@@ -52,7 +54,7 @@ impl<'a> Walk<'a> {
         dimensions: &Option<Dimensions>,
     ) -> Result<Option<usize>, AllocError>
         ensures walked { OnOk result (walked_in self.new
-            ≡ definitions.after_dimensions noted at (option_map dimensions_tree dimensions.now) (walked_in self.old)) }
+            ≡ definitions.after_dimensions noting at (option_map dimensions_tree dimensions.now) (walked_in self.old)) }
         ensures length { IfOk result
             (λ n. n ≡ definitions.length_at (walked_in self.old) (option_map dimensions_tree dimensions.now)) }
     {
@@ -74,7 +76,7 @@ impl<'a> Walk<'a> {
         name: Identifier,
     ) -> Result<(), AllocError>
         ensures { OnOk result (walked_in self.new
-            ≡ definitions.after_object_name noted typing (declared.Object object) name (walked_in self.old)) }
+            ≡ definitions.after_object_name noting typing (declared.Object object) name (walked_in self.old)) }
     {
         let is_special = special(spelling(self.scope.text, name)).is_some();
         let is_again = self.declare(name, Declaration::Object(object))?;
@@ -95,7 +97,7 @@ impl<'a> Walk<'a> {
         name: Identifier,
     ) -> Result<(), AllocError>
         ensures { OnOk result (walked_in self.new
-            ≡ definitions.after_object noted words is_array length name (walked_in self.old)) }
+            ≡ definitions.after_object noting words is_array length name (walked_in self.old)) }
     {
         let local = Local {
             name: Some(Name::new(alloc, spelling(self.scope.text, name))?),
@@ -116,7 +118,7 @@ impl<'a> Walk<'a> {
     #[tactic(auto, unfolding(pk_ast::specs::Views::declarator_tree))]
     fn head(&mut self, alloc: Global, words: Words, d: &Declarator) -> Result<usize, AllocError>
         ensures walked { OnOk result (walked_in self.new
-            ≡ definitions.after_head noted words (declarator_tree d.now) (walked_in self.old)) }
+            ≡ definitions.after_head noting words (declarator_tree d.now) (walked_in self.old)) }
         ensures number { IfOk result (λ n. n ≡ length (walked_in self.old).locals) }
     {
         let number = self.locals.len();
@@ -137,9 +139,9 @@ impl<'a> Walk<'a> {
         d: &Declarator,
     ) -> Result<Option<Declared>, AllocError>
         ensures walked { OnOk result (walked_in self.new
-            ≡ definitions.after_declarator noted words (declarator_tree d.now) (walked_in self.old)) }
+            ≡ definitions.after_declarator noting words (declarator_tree d.now) (walked_in self.old)) }
         ensures tree { IfOk result (λ t. option_map declared_tree t
-            ≡ definitions.declarator_tree_at noted words (declarator_tree d.now) (walked_in self.old)) }
+            ≡ definitions.declarator_tree_at noting words (declarator_tree d.now) (walked_in self.old)) }
     {
         let number = self.head(alloc, words, d)?;
         first_value(
@@ -155,7 +157,7 @@ impl<'a> Walk<'a> {
     /// Notes that the words name no type, where they don't.
     pub fn note_words(&mut self, words: &Specifiers)
         ensures { walked_in self.new
-            ≡ walks.failing noted (word_failures (walks.here (walked_in self.old)) (specifiers_tree words.now))
+            ≡ rules.failing noted (word_failures (walks.here (walked_in self.old)) (specifiers_tree words.now))
             (walked_in self.old) }
     {
         note_specifiers(&mut self.notes, &self.scope, words);
@@ -170,10 +172,10 @@ impl<'a> Walk<'a> {
         all: &mut Parts<Declared>,
     ) -> Result<(), AllocError>
         ensures walked { OnOk result (walked_in self.new
-            ≡ definitions.after_declarators noted words (declarator_trees list.now) (walked_in self.old)) }
+            ≡ definitions.after_declarators noting words (declarator_trees list.now) (walked_in self.old)) }
         ensures trees { OnOk result (declared_in all.new
             ≡ joined (declared_in all.old)
-            (definitions.declarator_trees_at noted words (declarator_trees list.now) (walked_in self.old))) }
+            (definitions.declarator_trees_at noting words (declarator_trees list.now) (walked_in self.old))) }
     {
         for d in list {
             let one = self.declarator(alloc, words, d)?;

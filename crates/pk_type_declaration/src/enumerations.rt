@@ -12,10 +12,11 @@ ghost use Rattle.pk_ast.specs.Views.{
 ghost use Rattle.pk_ctypes.specs.declared.types.IntType.TheVariants.{Int};
 ghost use Rattle.pk_ctypes.specs.Types.{is_in_type};
 ghost use Rattle.pk_typed.specs.Views.{declared_trees};
-ghost use Rattle.pk_type_scope.specs.Failures.{noted};
+ghost use Rattle.pk_type_declaration.specs.Rules as rules;
 ghost use Rattle.pk_type_declaration.specs.Enumerations as definitions;
 ghost use Rattle.pk_type_declaration.specs.Views.{walked_in};
 ghost use Rattle.pk_type_declaration.specs.Walks as walks;
+ghost use Rattle.pk_type_declaration.specs.Rules.{noting};
 
 use crate::specials::special;
 use crate::walk::Walk;
@@ -46,7 +47,7 @@ fn int_in(number: Option<i128>) -> Option<i32>
 
 /// Whether a number isn't one of int.
 pub(crate) fn is_beyond(number: Option<i128>) -> bool
-    ensures { result ≡ definitions.is_beyond number }
+    ensures { result ≡ rules.is_beyond number }
 {
     match number {
         None => false,
@@ -84,7 +85,7 @@ fn hidden(declared: Option<Declaration>, at: Pos, all: &mut Vec<Declared>) -> Re
 impl<'a> Walk<'a> {
     // Declares a tag, if there is one.
     fn tag(&mut self, tag: Option<Identifier>) -> Result<(), AllocError>
-        ensures { OnOk result (walked_in self.new ≡ definitions.after_tag noted tag (walked_in self.old)) }
+        ensures { OnOk result (walked_in self.new ≡ definitions.after_tag noting tag (walked_in self.old)) }
     {
         match tag {
             None => Ok(()),
@@ -109,7 +110,7 @@ impl<'a> Walk<'a> {
         value: &Option<Expression>,
     ) -> Result<Option<i32>, AllocError>
         ensures walked { OnOk result (walked_in self.new
-            ≡ definitions.after_enumerator_value noted next name (option_map expression_tree value.now)
+            ≡ definitions.after_enumerator_value noting next name (option_map expression_tree value.now)
             (walked_in self.old)) }
         ensures value { IfOk result (λ n. n
             ≡ definitions.enumerator_value (walked_in self.old) next (option_map expression_tree value.now)) }
@@ -134,7 +135,7 @@ impl<'a> Walk<'a> {
     // Declares an enumerator, and notes what fails at its name.
     fn enumerator_name(&mut self, value: Option<i32>, name: Identifier) -> Result<(), AllocError>
         ensures { OnOk result
-            (walked_in self.new ≡ definitions.after_enumerator_name noted value name (walked_in self.old)) }
+            (walked_in self.new ≡ definitions.after_enumerator_name noting value name (walked_in self.old)) }
     {
         let is_special = special(spelling(self.scope.text, name)).is_some();
         let is_again = self.declare(name, Declaration::Enumerator(value))?;
@@ -152,7 +153,7 @@ impl<'a> Walk<'a> {
         x: &Enumerator,
     ) -> Result<Option<i32>, AllocError>
         ensures walked { OnOk result (walked_in self.new
-            ≡ definitions.after_enumerator noted next (enumerator_tree x.now) (walked_in self.old)) }
+            ≡ definitions.after_enumerator noting next (enumerator_tree x.now) (walked_in self.old)) }
         ensures value { IfOk result (λ n. n
             ≡ definitions.enumerator_value (walked_in self.old) next (enumerator_tree x.now).value) }
     {
@@ -171,7 +172,7 @@ impl<'a> Walk<'a> {
         all: &mut Vec<Declared>,
     ) -> Result<Option<i128>, AllocError>
         ensures walked { OnOk result (walked_in self.new
-            ≡ definitions.after_enumerator noted next (enumerator_tree x.now) (walked_in self.old)) }
+            ≡ definitions.after_enumerator noting next (enumerator_tree x.now) (walked_in self.old)) }
         ensures next { IfOk result (λ n. n ≡ definitions.next_number
             (definitions.enumerator_value (walked_in self.old) next (enumerator_tree x.now).value)) }
         ensures trees { OnOk result (declared_trees all.new.items
@@ -193,10 +194,10 @@ impl<'a> Walk<'a> {
         all: &mut Vec<Declared>,
     ) -> Result<(), AllocError>
         ensures walked { OnOk result (walked_in self.new
-            ≡ definitions.after_enumerators noted next (enumerator_trees list.now) (walked_in self.old)) }
+            ≡ definitions.after_enumerators noting next (enumerator_trees list.now) (walked_in self.old)) }
         ensures trees { OnOk result (declared_trees all.new.items
             ≡ declared_trees all.old.items
-            ++ definitions.hidden_by noted next (enumerator_trees list.now) (walked_in self.old)) }
+            ++ definitions.hidden_by noting next (enumerator_trees list.now) (walked_in self.old)) }
     {
         let mut next = next;
         for x in list {
@@ -214,11 +215,11 @@ impl<'a> Walk<'a> {
         all: &mut Vec<Declared>,
     ) -> Result<(), AllocError>
         ensures walked { OnOk result (walked_in self.new
-            ≡ definitions.after_words noted (specifiers_tree words.now) (Some (enumeration_tree e.now))
+            ≡ definitions.after_words noting (specifiers_tree words.now) (Some (enumeration_tree e.now))
             (walked_in self.old)) }
         ensures trees { OnOk result (declared_trees all.new.items
             ≡ declared_trees all.old.items
-            ++ definitions.word_trees_at noted (specifiers_tree words.now) (Some (enumeration_tree e.now))
+            ++ definitions.word_trees_at noting (specifiers_tree words.now) (Some (enumeration_tree e.now))
             (walked_in self.old)) }
     {
         self.tag(type_name_among(words))?;
@@ -236,10 +237,10 @@ impl<'a> Walk<'a> {
         enumeration: &Option<Box<Enumeration>>,
     ) -> Result<Vec<Declared>, AllocError>
         ensures walked { OnOk result (walked_in self.new
-            ≡ definitions.after_words noted (specifiers_tree words.now) (braces_tree enumeration.now)
+            ≡ definitions.after_words noting (specifiers_tree words.now) (braces_tree enumeration.now)
             (walked_in self.old)) }
         ensures trees { IfOk result (λ v. declared_trees v.items
-            ≡ definitions.word_trees_at noted (specifiers_tree words.now) (braces_tree enumeration.now)
+            ≡ definitions.word_trees_at noting (specifiers_tree words.now) (braces_tree enumeration.now)
             (walked_in self.old)) }
     {
         let mut all = Vec::new(alloc);
@@ -258,7 +259,7 @@ impl<'a> Walk<'a> {
         enumeration: &Option<Box<Enumeration>>,
     ) -> Result<(), AllocError>
         ensures { OnOk result (walked_in self.new
-            ≡ definitions.after_words noted (specifiers_tree words.now) (braces_tree enumeration.now)
+            ≡ definitions.after_words noting (specifiers_tree words.now) (braces_tree enumeration.now)
             (walked_in self.old)) }
     {
         self.words(alloc, words, enumeration)?;

@@ -12,11 +12,13 @@ ghost use Rattle.pk_ast.specs.Views.{
 ghost use Rattle.pk_typed.specs.Trees as tree;
 ghost use Rattle.pk_typed.specs.Views.{value_tree, optional_values, declared_tree};
 ghost use Rattle.pk_type_scope.specs.Failures.{noted};
+ghost use Rattle.pk_type_declaration.specs.Rules as rules;
 ghost use Rattle.pk_type_declaration.specs.Declarations as definitions;
-ghost use Rattle.pk_type_declaration.specs.Initializers.{item_values, items_values, first_misfit};
+ghost use Rattle.pk_type_declaration.specs.Initializers.{item_values, items_values};
 ghost use Rattle.pk_type_declaration.specs.Parts.{joined};
 ghost use Rattle.pk_type_declaration.specs.Views.{walked_in};
 ghost use Rattle.pk_type_declaration.specs.Walks as walks;
+ghost use Rattle.pk_type_declaration.specs.Rules.{first_misfit, noting};
 
 use crate::walk::Walk;
 use pk_ast::{Expression, Initializer, InitializerItem};
@@ -62,7 +64,7 @@ impl<'a> Walk<'a> {
         first: &Expression,
         more: &[Expression],
     ) -> Result<Option<Vec<Value>>, AllocError>
-        ensures walked { OnOk result (walked_in self.new ≡ walks.after_values noted
+        ensures walked { OnOk result (walked_in self.new ≡ walks.after_values noting
             (expression_then (expression_tree first.now) (expression_trees more.now)) (walked_in self.old)) }
         ensures values { IfOk result (λ vs. optional_values vs ≡ walks.values_at (walked_in self.old)
             (expression_then (expression_tree first.now) (expression_trees more.now))) }
@@ -81,7 +83,7 @@ impl<'a> Walk<'a> {
         item: &InitializerItem,
     ) -> Result<Option<Vec<Value>>, AllocError>
         ensures walked { OnOk result (walked_in self.new
-            ≡ walks.after_values noted (item_values (initializer_item_tree item.now)) (walked_in self.old)) }
+            ≡ walks.after_values noting (item_values (initializer_item_tree item.now)) (walked_in self.old)) }
         ensures values { IfOk result (λ vs. optional_values vs
             ≡ walks.values_at (walked_in self.old) (item_values (initializer_item_tree item.now))) }
     {
@@ -101,7 +103,7 @@ impl<'a> Walk<'a> {
         list: &[InitializerItem],
     ) -> Result<Option<Vec<Value>>, AllocError>
         ensures walked { OnOk result (walked_in self.new
-            ≡ walks.after_values noted (items_values (initializer_item_trees list.now)) (walked_in self.old)) }
+            ≡ walks.after_values noting (items_values (initializer_item_trees list.now)) (walked_in self.old)) }
         ensures values { IfOk result (λ vs. optional_values vs
             ≡ walks.values_at (walked_in self.old) (items_values (initializer_item_trees list.now))) }
     {
@@ -120,7 +122,7 @@ impl<'a> Walk<'a> {
         first: &InitializerItem,
         more: &[InitializerItem],
     ) -> Result<Option<Vec<Value>>, AllocError>
-        ensures walked { OnOk result (walked_in self.new ≡ walks.after_values noted
+        ensures walked { OnOk result (walked_in self.new ≡ walks.after_values noting
             (items_values (initializer_item_tree first.now ∷ initializer_item_trees more.now)) (walked_in self.old)) }
         ensures values { IfOk result (λ vs. optional_values vs ≡ walks.values_at (walked_in self.old)
             (items_values (initializer_item_tree first.now ∷ initializer_item_trees more.now))) }
@@ -176,7 +178,7 @@ pub(crate) fn first_value(
     first: &Option<Initializer>,
 ) -> Result<Option<Declared>, AllocError>
     ensures walked { OnOk result (walked_in walk.new
-        ≡ definitions.after_initializer noted (option_map initializer_tree first.now) (walked_in walk.old)) }
+        ≡ definitions.after_initializer noting (option_map initializer_tree first.now) (walked_in walk.old)) }
     ensures tree { IfOk result (λ d. option_map declared_tree d
         ≡ definitions.object_tree is_array number at (option_map initializer_tree first.now)
         (walked_in walk.old)) }
@@ -206,7 +208,7 @@ pub(crate) fn first_value(
 #[tactic(auto, unfolding(pk_ast::specs::Views::initializer_tree))]
 pub fn note_braces(walk: &mut Walk<'_>, is_array: bool, first: &Option<Initializer>, at: Pos)
     ensures { walked_in walk.new
-        ≡ walks.failing noted (definitions.braces is_array (option_map initializer_tree first.now) at)
+        ≡ rules.failing noted (rules.braces is_array (option_map initializer_tree first.now) at)
         (walked_in walk.old) }
 {
     match first {
@@ -258,7 +260,7 @@ fn braced_misfit(length: usize, first: &InitializerItem, more: &[InitializerItem
 }
 
 fn note_place(walk: &mut Walk<'_>, at: Option<Pos>)
-    ensures { walked_in walk.new ≡ walks.failing noted (definitions.misfit_at at) (walked_in walk.old) }
+    ensures { walked_in walk.new ≡ rules.failing noted (rules.misfit_at at) (walked_in walk.old) }
 {
     match at {
         None => {}
@@ -270,7 +272,7 @@ fn note_place(walk: &mut Walk<'_>, at: Option<Pos>)
 #[tactic(auto, unfolding(pk_ast::specs::Views::initializer_tree))]
 pub fn note_misfit(walk: &mut Walk<'_>, length: Option<usize>, first: &Option<Initializer>)
     ensures { walked_in walk.new
-        ≡ walks.failing noted (definitions.misfit length (option_map initializer_tree first.now))
+        ≡ rules.failing noted (rules.misfit length (option_map initializer_tree first.now))
         (walked_in walk.old) }
 {
     let Some(length) = length else {

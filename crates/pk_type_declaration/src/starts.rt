@@ -9,11 +9,11 @@ ghost use Rattle.pk_ast.specs.Views.{
   initializer_tree,
 };
 ghost use Rattle.pk_typed.specs.Views.{start_tree};
-ghost use Rattle.pk_type_scope.specs.Failures.{noted};
 ghost use Rattle.pk_type_declaration.specs.Constants.{after_constant};
 ghost use Rattle.pk_type_declaration.specs.Initializers.{item_values, items_values, given};
 ghost use Rattle.pk_type_declaration.specs.Starts as definitions;
 ghost use Rattle.pk_type_declaration.specs.Views.{walked_in};
+ghost use Rattle.pk_type_declaration.specs.Rules.{noting};
 
 use crate::walk::Walk;
 use pk_ast::{Expression, Initializer, InitializerItem};
@@ -58,7 +58,7 @@ fn number(
     all: &mut Vec<i128>,
 ) -> Result<(), AllocError>
     ensures walked { OnOk result
-        (walked_in walk.new ≡ after_constant noted (expression_tree e.now) (walked_in walk.old)) }
+        (walked_in walk.new ≡ after_constant noting (expression_tree e.now) (walked_in walk.old)) }
     ensures numbers { OnOk result (all.new.items
         ≡ all.old.items ++ definitions.number_at int_type (walked_in walk.old) (expression_tree e.now) ∷ []) }
 {
@@ -76,9 +76,9 @@ fn numbers(
     all: &mut Vec<i128>,
 ) -> Result<(), AllocError>
     ensures walked { OnOk result (walked_in walk.new
-        ≡ definitions.after_numbers noted (expression_trees list.now) (walked_in walk.old)) }
+        ≡ definitions.after_numbers noting (expression_trees list.now) (walked_in walk.old)) }
     ensures numbers { OnOk result (all.new.items
-        ≡ all.old.items ++ definitions.numbers_at noted int_type (expression_trees list.now) (walked_in walk.old)) }
+        ≡ all.old.items ++ definitions.numbers_at noting int_type (expression_trees list.now) (walked_in walk.old)) }
 {
     for e in list {
         number(walk, alloc, int_type, e, all)?;
@@ -96,9 +96,9 @@ fn item(
     all: &mut Vec<i128>,
 ) -> Result<(), AllocError>
     ensures walked { OnOk result (walked_in walk.new
-        ≡ definitions.after_numbers noted (item_values (initializer_item_tree item.now)) (walked_in walk.old)) }
+        ≡ definitions.after_numbers noting (item_values (initializer_item_tree item.now)) (walked_in walk.old)) }
     ensures numbers { OnOk result (all.new.items ≡ all.old.items
-        ++ definitions.numbers_at noted int_type (item_values (initializer_item_tree item.now)) (walked_in walk.old)) }
+        ++ definitions.numbers_at noting int_type (item_values (initializer_item_tree item.now)) (walked_in walk.old)) }
 {
     match item {
         InitializerItem::Value(e) => number(walk, alloc, int_type, e, all),
@@ -118,8 +118,8 @@ fn items(
     all: &mut Vec<i128>,
 ) -> Result<(), AllocError>
     ensures walked { OnOk result (walked_in walk.new
-        ≡ definitions.after_numbers noted (items_values (initializer_item_trees list.now)) (walked_in walk.old)) }
-    ensures numbers { OnOk result (all.new.items ≡ all.old.items ++ definitions.numbers_at noted int_type
+        ≡ definitions.after_numbers noting (items_values (initializer_item_trees list.now)) (walked_in walk.old)) }
+    ensures numbers { OnOk result (all.new.items ≡ all.old.items ++ definitions.numbers_at noting int_type
         (items_values (initializer_item_trees list.now)) (walked_in walk.old)) }
 {
     for i in list {
@@ -137,9 +137,9 @@ fn braced(
     more: &[InitializerItem],
     all: &mut Vec<i128>,
 ) -> Result<(), AllocError>
-    ensures walked { OnOk result (walked_in walk.new ≡ definitions.after_numbers noted
+    ensures walked { OnOk result (walked_in walk.new ≡ definitions.after_numbers noting
         (items_values (initializer_item_tree first.now ∷ initializer_item_trees more.now)) (walked_in walk.old)) }
-    ensures numbers { OnOk result (all.new.items ≡ all.old.items ++ definitions.numbers_at noted int_type
+    ensures numbers { OnOk result (all.new.items ≡ all.old.items ++ definitions.numbers_at noting int_type
         (items_values (initializer_item_tree first.now ∷ initializer_item_trees more.now)) (walked_in walk.old)) }
 {
     item(walk, alloc, int_type, first, all)?;
@@ -155,10 +155,10 @@ fn given(
     first: &Option<Initializer>,
 ) -> Result<Vec<i128>, AllocError>
     ensures walked { OnOk result (walked_in walk.new
-        ≡ definitions.after_numbers noted (given (option_map initializer_tree first.now))
+        ≡ definitions.after_numbers noting (given (option_map initializer_tree first.now))
         (walked_in walk.old)) }
     ensures numbers { IfOk result (λ v. v.items
-        ≡ definitions.numbers_at noted int_type (given (option_map initializer_tree first.now))
+        ≡ definitions.numbers_at noting int_type (given (option_map initializer_tree first.now))
         (walked_in walk.old)) }
 {
     let mut all = Vec::new(alloc);
@@ -184,10 +184,10 @@ impl<'a> Walk<'a> {
         first: &Option<Initializer>,
     ) -> Result<Start, AllocError>
         ensures walked { OnOk result (walked_in self.new
-            ≡ definitions.after_numbers noted (given (option_map initializer_tree first.now))
+            ≡ definitions.after_numbers noting (given (option_map initializer_tree first.now))
             (walked_in self.old)) }
         ensures start { IfOk result (λ s. start_tree s
-            ≡ definitions.start_at noted int_type length (option_map initializer_tree first.now)
+            ≡ definitions.start_at noting int_type length (option_map initializer_tree first.now)
             (walked_in self.old)) }
     {
         let items = given(self, alloc, int_type, first)?;

@@ -3,11 +3,11 @@
 ghost use Rattle.std.specs.Prelude.{◌≡◌, ◌+◌, ◌++◌, is_some, option_map, length, IfOk, OnOk};
 ghost use Rattle.pk_ast.specs.Views.{declarator_tree, declarator_trees, declaration_tree};
 ghost use Rattle.pk_typed.specs.Views.{file_object_tree, declared_tree, declared_trees};
-ghost use Rattle.pk_type_scope.specs.Failures.{noted};
 ghost use Rattle.pk_type_declaration.specs.Declarations.{length_at, length_or_1};
 ghost use Rattle.pk_type_declaration.specs.Statics as definitions;
 ghost use Rattle.pk_type_declaration.specs.Views.{walked_in};
 ghost use Rattle.pk_type_declaration.specs.Walks as walks;
+ghost use Rattle.pk_type_declaration.specs.Rules.{noting};
 
 use crate::declarators::length_or_1;
 use crate::initializers::{note_braces, note_misfit};
@@ -52,7 +52,7 @@ impl<'a> Walk<'a> {
     ) -> Result<Option<usize>, AllocError>
         requires { number ≡ definitions.next_static (walked_in self.old) }
         ensures walked { OnOk result (walked_in self.new
-            ≡ definitions.after_static_head noted words (declarator_tree d.now) (walked_in self.old)) }
+            ≡ definitions.after_static_head noting words (declarator_tree d.now) (walked_in self.old)) }
         ensures length { IfOk result (λ n. n
             ≡ length_or_1 (is_some (declarator_tree d.now).dimensions)
             (length_at (walked_in self.old) (declarator_tree d.now).dimensions)) }
@@ -80,7 +80,7 @@ impl<'a> Walk<'a> {
         d: &Declarator,
     ) -> Result<Declared, AllocError>
         ensures walked { OnOk result (walked_in self.new
-            ≡ definitions.after_static noted words (declarator_tree d.now) (walked_in self.old)) }
+            ≡ definitions.after_static noting words (declarator_tree d.now) (walked_in self.old)) }
         ensures tree { IfOk result (λ t. declared_tree t
             ≡ definitions.static_tree_at (declarator_tree d.now) (walked_in self.old)) }
     {
@@ -106,10 +106,10 @@ impl<'a> Walk<'a> {
         all: &mut Vec<Declared>,
     ) -> Result<(), AllocError>
         ensures walked { OnOk result (walked_in self.new
-            ≡ definitions.after_statics noted words (declarator_trees list.now) (walked_in self.old)) }
+            ≡ definitions.after_statics noting words (declarator_trees list.now) (walked_in self.old)) }
         ensures trees { OnOk result (declared_trees all.new.items
             ≡ declared_trees all.old.items
-            ++ definitions.static_trees_at noted words (declarator_trees list.now) (walked_in self.old)) }
+            ++ definitions.static_trees_at noting words (declarator_trees list.now) (walked_in self.old)) }
     {
         for d in list {
             let one = self.static_declarator(alloc, words, d)?;
@@ -126,9 +126,9 @@ impl<'a> Walk<'a> {
         d: &Declaration,
     ) -> Result<Option<Vec<Declared>>, AllocError>
         ensures walked { OnOk result (walked_in self.new
-            ≡ definitions.after_declaration noted (declaration_tree d.now) (walked_in self.old)) }
+            ≡ definitions.after_declaration noting (declaration_tree d.now) (walked_in self.old)) }
         ensures trees { IfOk result (λ t. option_map (λ v. declared_trees v.items) t
-            ≡ definitions.declaration_trees_at noted (declaration_tree d.now) (walked_in self.old)) }
+            ≡ definitions.declaration_trees_at noting (declaration_tree d.now) (walked_in self.old)) }
     {
         let words = Words::at(&self.scope, &d.specifiers, &d.enumeration);
         let hidden = self.words(alloc, &d.specifiers, &d.enumeration)?;
@@ -145,9 +145,9 @@ impl<'a> Walk<'a> {
         d: &Declaration,
     ) -> Result<Vec<Declared>, AllocError>
         ensures walked { OnOk result (walked_in self.new
-            ≡ definitions.after_static_declaration noted (declaration_tree d.now) (walked_in self.old)) }
+            ≡ definitions.after_static_declaration noting (declaration_tree d.now) (walked_in self.old)) }
         ensures trees { IfOk result (λ v. declared_trees v.items
-            ≡ definitions.static_declaration_at noted (declaration_tree d.now) (walked_in self.old)) }
+            ≡ definitions.static_declaration_at noting (declaration_tree d.now) (walked_in self.old)) }
     {
         let words = Words::at(&self.scope, &d.specifiers, &d.enumeration);
         let mut all = self.words(alloc, &d.specifiers, &d.enumeration)?;
@@ -163,9 +163,9 @@ impl<'a> Walk<'a> {
         d: &Declaration,
     ) -> Result<Option<Vec<Declared>>, AllocError>
         ensures walked { OnOk result (walked_in self.new
-            ≡ definitions.after_block_declaration noted is_static (declaration_tree d.now) (walked_in self.old)) }
+            ≡ definitions.after_block_declaration noting is_static (declaration_tree d.now) (walked_in self.old)) }
         ensures trees { IfOk result (λ t. option_map (λ v. declared_trees v.items) t
-            ≡ definitions.block_declaration_at noted is_static (declaration_tree d.now) (walked_in self.old)) }
+            ≡ definitions.block_declaration_at noting is_static (declaration_tree d.now) (walked_in self.old)) }
     {
         match is_static {
             None => self.declaration(alloc, d),

@@ -8,8 +8,10 @@ ghost use Rattle.pk_type_scope.specs.Scopes.{declared_here};
 ghost use Rattle.pk_type_expression.specs.Typed as typed;
 ghost use Rattle.pk_type_expression.specs.Types.{type_of};
 ghost use Rattle.pk_type_expression.specs.Views.{evaluated_tree};
+ghost use Rattle.pk_type_declaration.specs.Rules as rules;
 ghost use Rattle.pk_type_declaration.specs.Views.{walked_in};
 ghost use Rattle.pk_type_declaration.specs.Walks as walks;
+ghost use Rattle.pk_type_declaration.specs.Rules.{noting};
 
 use pk_ast::{Expression, Identifier};
 use pk_ctypes::{Pos, Rule};
@@ -49,7 +51,7 @@ fn value_in(tree: Option<Evaluated>) -> Option<Box<Value>>
 impl<'a> Walk<'a> {
     /// Notes that a rule fails, where it does.
     pub fn fail_if(&mut self, fails: bool, rule: Rule, at: Pos)
-        ensures { walked_in self.new ≡ walks.failing noted (fails_if fails rule at) (walked_in self.old) }
+        ensures { walked_in self.new ≡ rules.failing noted (fails_if fails rule at) (walked_in self.old) }
     {
         self.notes.fail_if(fails, rule, at);
     }
@@ -57,7 +59,7 @@ impl<'a> Walk<'a> {
     /// Checks an expression whose value is used, and gives its value.
     pub fn value(&mut self, alloc: Global, e: &Expression) -> Result<Option<Box<Value>>, AllocError>
         ensures walked { OnOk result (walked_in self.new
-            ≡ walks.after_value noted (expression_tree e.now) (walked_in self.old)) }
+            ≡ walks.after_value noting (expression_tree e.now) (walked_in self.old)) }
         ensures value { IfOk result (λ v. option_map (λ b. value_tree b.value) v
             ≡ walks.value_at (walked_in self.old) (expression_tree e.now)) }
     {
@@ -72,7 +74,7 @@ impl<'a> Walk<'a> {
         e: &Expression,
     ) -> Result<(Typing, Option<Box<Value>>), AllocError>
         ensures walked { OnOk result (walked_in self.new
-            ≡ walks.after_value noted (expression_tree e.now) (walked_in self.old)) }
+            ≡ walks.after_value noting (expression_tree e.now) (walked_in self.old)) }
         ensures typing { IfOk result (λ r. r.0 ≡ type_of (walks.here (walked_in self.old)) (expression_tree e.now)) }
         ensures value { IfOk result (λ r. option_map (λ b. value_tree b.value) r.1
             ≡ walks.value_at (walked_in self.old) (expression_tree e.now)) }
@@ -85,7 +87,7 @@ impl<'a> Walk<'a> {
     /// Checks an expression whose value isn't used, and gives its evaluation.
     pub fn effect(&mut self, alloc: Global, e: &Expression) -> Result<Option<Effect>, AllocError>
         ensures walked { OnOk result (walked_in self.new
-            ≡ walks.after_effect noted (expression_tree e.now) (walked_in self.old)) }
+            ≡ walks.after_effect noting (expression_tree e.now) (walked_in self.old)) }
         ensures effect { IfOk result (λ v. option_map effect_tree v
             ≡ walks.effect_at (walked_in self.old) (expression_tree e.now)) }
     {
@@ -100,7 +102,7 @@ impl<'a> Walk<'a> {
         list: &[Expression],
     ) -> Result<Option<Vec<Value>>, AllocError>
         ensures walked { OnOk result (walked_in self.new
-            ≡ walks.after_values noted (expression_trees list.now) (walked_in self.old)) }
+            ≡ walks.after_values noting (expression_trees list.now) (walked_in self.old)) }
         ensures values { IfOk result (λ v. optional_values v
             ≡ walks.values_at (walked_in self.old) (expression_trees list.now)) }
     {

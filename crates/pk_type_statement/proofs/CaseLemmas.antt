@@ -10,11 +10,12 @@ use Rattle.pk_type_scope.specs.Failures.{noted, fails_if}
 use Rattle.pk_type_expression.specs.Typed.{of_both}
 use Rattle.pk_type_scope.proofs.FailureLemmas.{noted_append}
 use Rattle.pk_type_declaration.specs.Parts.{joined}
-use Rattle.pk_type_declaration.specs.Walks.{Walked, failing}
+use Rattle.pk_type_declaration.specs.Walks.{Walked}
+use Rattle.pk_type_declaration.specs.Rules.{failing}
 use Rattle.pk_type_declaration.proofs.PartLemmas.{joined_step, joined_none, none_joined}
 use Rattle.pk_type_statement.specs.declared.statements.Case.{Case}
-use Rattle.pk_type_statement.specs.Statements.{Numbers, repeated, is_repeated, and_case}
 use Rattle.pk_type_statement.specs.Trees.{case_numbers}
+use Rattle.pk_type_statement.specs.Rules.{Numbers, repeated, is_repeated, and_case}
 
 abbrev State : Type 0
 State = Walked (Option Failure)

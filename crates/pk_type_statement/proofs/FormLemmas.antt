@@ -18,7 +18,6 @@ use Rattle.pk_typed.specs.Trees.{ValueTree}
 use Rattle.pk_typed.specs.Views as views
 use Rattle.pk_type_scope.specs.declared.declarations.Typing.{Typing}
 use Rattle.pk_type_scope.specs.declared.failures.Failure.{Failure}
-use Rattle.pk_type_scope.specs.Failures.{noted}
 use Rattle.pk_type_expression.specs.Typed.{of_both}
 use Rattle.pk_type_declaration.specs.Walks.{after_value, value_at}
 use Rattle.pk_type_declaration.proofs.PartLemmas.{map_twice}
@@ -26,6 +25,7 @@ use Rattle.pk_type_statement.specs.declared.statements.Case.{Case}
 use Rattle.pk_type_statement.specs.Statements.{Passed, on, after, with_case, with_default}
 use Rattle.pk_type_statement.specs.Trees.{Labels, label_at, of_three, typed}
 use Rattle.pk_type_statement.specs.Views.{statement_in}
+use Rattle.pk_type_statement.specs.Rules.{noting}
 
 abbrev State : Type 0
 State = Passed (Option Failure)
@@ -72,68 +72,68 @@ pub counted : (v : Vec Case Global) (n : ℕ) → n ≡ vec_len v → n ≡ leng
 counted v n h = omega (arith, v.ok)
 
 -- `if`
-pub if_passed : (r : Typing) (t s : StatementTree) (at : Pos) (e : ExpressionTree) (p q v : State) → t ≡ if_then at e s → q ≡ on (after_value noted e) p → v ≡ after noted r q s → v ≡ after noted r p t
+pub if_passed : (r : Typing) (t s : StatementTree) (at : Pos) (e : ExpressionTree) (p q v : State) → t ≡ if_then at e s → q ≡ on (after_value noting.declarations e) p → v ≡ after noting r q s → v ≡ after noting r p t
 unfolding after
 if_passed r t s at e p q v is a b = rw (b, a, is) refl
 
 pub if_typed : (r : Typing) (l : Labels) (t s : StatementTree) (at : Pos) (e : ExpressionTree) (p q : State) (c : Option ValueTree) (b o : Option tree.StatementTree)
-    → t ≡ if_then at e s → q ≡ on (after_value noted e) p → c ≡ value_at p.walked e → b ≡ typed noted r l q s → o ≡ of_both (tree.if_then at) c b → o ≡ typed noted r l p t
+    → t ≡ if_then at e s → q ≡ on (after_value noting.declarations e) p → c ≡ value_at p.walked e → b ≡ typed noting r l q s → o ≡ of_both (tree.if_then at) c b → o ≡ typed noting r l p t
 unfolding typed
 if_typed r l t s at e p q c b o is a h k m = rw (m, k, h, a, is) refl
 
-pub if_else_passed : (r : Typing) (t s u : StatementTree) (at : Pos) (e : ExpressionTree) (p q v w : State) → t ≡ if_else at e s u → q ≡ on (after_value noted e) p → v ≡ after noted r q s → w ≡ after noted r v u → w ≡ after noted r p t
+pub if_else_passed : (r : Typing) (t s u : StatementTree) (at : Pos) (e : ExpressionTree) (p q v w : State) → t ≡ if_else at e s u → q ≡ on (after_value noting.declarations e) p → v ≡ after noting r q s → w ≡ after noting r v u → w ≡ after noting r p t
 unfolding after
 if_else_passed r t s u at e p q v w is a b c = rw (c, b, a, is) refl
 
 pub if_else_typed : (r : Typing) (l : Labels) (t s u : StatementTree) (at : Pos) (e : ExpressionTree) (p q v : State) (c : Option ValueTree) (b d o : Option tree.StatementTree)
-    → t ≡ if_else at e s u → q ≡ on (after_value noted e) p → v ≡ after noted r q s → c ≡ value_at p.walked e → b ≡ typed noted r l q s → d ≡ typed noted r l v u
-    → o ≡ of_three (tree.if_else at) c b d → o ≡ typed noted r l p t
+    → t ≡ if_else at e s u → q ≡ on (after_value noting.declarations e) p → v ≡ after noting r q s → c ≡ value_at p.walked e → b ≡ typed noting r l q s → d ≡ typed noting r l v u
+    → o ≡ of_three (tree.if_else at) c b d → o ≡ typed noting r l p t
 unfolding typed
 if_else_typed r l t s u at e p q v c b d o is a x h k n m = rw (m, n, k, h, x, a, is) refl
 
 -- `while`, `do`
-pub while_passed : (r : Typing) (t s : StatementTree) (at : Pos) (e : ExpressionTree) (p q v : State) → t ≡ while at e s → q ≡ on (after_value noted e) p → v ≡ after noted r q s → v ≡ after noted r p t
+pub while_passed : (r : Typing) (t s : StatementTree) (at : Pos) (e : ExpressionTree) (p q v : State) → t ≡ while at e s → q ≡ on (after_value noting.declarations e) p → v ≡ after noting r q s → v ≡ after noting r p t
 unfolding after
 while_passed r t s at e p q v is a b = rw (b, a, is) refl
 
 pub while_typed : (r : Typing) (l : Labels) (t s : StatementTree) (at : Pos) (e : ExpressionTree) (p q : State) (c : Option ValueTree) (b o : Option tree.StatementTree)
-    → t ≡ while at e s → q ≡ on (after_value noted e) p → c ≡ value_at p.walked e → b ≡ typed noted r l q s → o ≡ of_both (tree.while at) c b → o ≡ typed noted r l p t
+    → t ≡ while at e s → q ≡ on (after_value noting.declarations e) p → c ≡ value_at p.walked e → b ≡ typed noting r l q s → o ≡ of_both (tree.while at) c b → o ≡ typed noting r l p t
 unfolding typed
 while_typed r l t s at e p q c b o is a h k m = rw (m, k, h, a, is) refl
 
-pub do_passed : (r : Typing) (t s : StatementTree) (at : Pos) (e : ExpressionTree) (p q v : State) → t ≡ do_while at s e → q ≡ after noted r p s → v ≡ on (after_value noted e) q → v ≡ after noted r p t
+pub do_passed : (r : Typing) (t s : StatementTree) (at : Pos) (e : ExpressionTree) (p q v : State) → t ≡ do_while at s e → q ≡ after noting r p s → v ≡ on (after_value noting.declarations e) q → v ≡ after noting r p t
 unfolding after
 do_passed r t s at e p q v is a b = rw (b, a, is) refl
 
 pub do_typed : (r : Typing) (l : Labels) (t s : StatementTree) (at : Pos) (e : ExpressionTree) (p q : State) (c : Option ValueTree) (b o : Option tree.StatementTree)
-    → t ≡ do_while at s e → q ≡ after noted r p s → b ≡ typed noted r l p s → c ≡ value_at q.walked e → o ≡ of_both (tree.do_while at) b c → o ≡ typed noted r l p t
+    → t ≡ do_while at s e → q ≡ after noting r p s → b ≡ typed noting r l p s → c ≡ value_at q.walked e → o ≡ of_both (tree.do_while at) b c → o ≡ typed noting r l p t
 unfolding typed
 do_typed r l t s at e p q c b o is a h k m = rw (m, k, h, a, is) refl
 
 -- labels, cases and defaults
-pub label_passed : (r : Typing) (t s : StatementTree) (x : Identifier) (p v : State) → t ≡ label x s → v ≡ after noted r p s → v ≡ after noted r p t
+pub label_passed : (r : Typing) (t s : StatementTree) (x : Identifier) (p v : State) → t ≡ label x s → v ≡ after noting r p s → v ≡ after noting r p t
 unfolding after
 label_passed r t s x p v is a = rw (a, is) refl
 
 pub label_typed : (r : Typing) (l : Labels) (t s : StatementTree) (x : Identifier) (p : State) (n : Option ℕ) (b o : Option tree.StatementTree)
-    → t ≡ label x s → n ≡ label_at l p.walked x → b ≡ typed noted r l p s → o ≡ of_both (tree.label x.at) n b → o ≡ typed noted r l p t
+    → t ≡ label x s → n ≡ label_at l p.walked x → b ≡ typed noting r l p s → o ≡ of_both (tree.label x.at) n b → o ≡ typed noting r l p t
 unfolding typed
 label_typed r l t s x p n b o is h k m = rw (m, k, h, is) refl
 
-pub case_passed : (r : Typing) (t s : StatementTree) (at : Pos) (e : ExpressionTree) (p q v : State) → t ≡ case at e s → q ≡ with_case noted at e p → v ≡ after noted r q s → v ≡ after noted r p t
+pub case_passed : (r : Typing) (t s : StatementTree) (at : Pos) (e : ExpressionTree) (p q v : State) → t ≡ case at e s → q ≡ with_case noting.declarations at e p → v ≡ after noting r q s → v ≡ after noting r p t
 unfolding after
 case_passed r t s at e p q v is a b = rw (b, a, is) refl
 
 pub case_typed : (r : Typing) (l : Labels) (t s : StatementTree) (at : Pos) (e : ExpressionTree) (p q : State) (n : ℕ) (b o : Option tree.StatementTree)
-    → t ≡ case at e s → q ≡ with_case noted at e p → n ≡ length p.cases → b ≡ typed noted r l q s → o ≡ option_map (tree.case at n) b → o ≡ typed noted r l p t
+    → t ≡ case at e s → q ≡ with_case noting.declarations at e p → n ≡ length p.cases → b ≡ typed noting r l q s → o ≡ option_map (tree.case at n) b → o ≡ typed noting r l p t
 unfolding typed
 case_typed r l t s at e p q n b o is a h k m = rw (m, k, h, a, is) refl
 
-pub default_passed : (r : Typing) (t s : StatementTree) (at : Pos) (p q v : State) → t ≡ default at s → q ≡ with_default p → v ≡ after noted r q s → v ≡ after noted r p t
+pub default_passed : (r : Typing) (t s : StatementTree) (at : Pos) (p q v : State) → t ≡ default at s → q ≡ with_default p → v ≡ after noting r q s → v ≡ after noting r p t
 unfolding after
 default_passed r t s at p q v is a b = rw (b, a, is) refl
 
 pub default_typed : (r : Typing) (l : Labels) (t s : StatementTree) (at : Pos) (p q : State) (b o : Option tree.StatementTree)
-    → t ≡ default at s → q ≡ with_default p → b ≡ typed noted r l q s → o ≡ option_map (tree.default at) b → o ≡ typed noted r l p t
+    → t ≡ default at s → q ≡ with_default p → b ≡ typed noting r l q s → o ≡ option_map (tree.default at) b → o ≡ typed noting r l p t
 unfolding typed
 default_typed r l t s at p q b o is a k m = rw (m, k, a, is) refl

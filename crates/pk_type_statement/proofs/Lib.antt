@@ -3,3 +3,4 @@ mod FormLemmas
 pub mod ItemLemmas
 pub mod KeepLemmas
 pub mod WalkLemmas
+pub mod BareLemmas

@@ -15,10 +15,12 @@ use Rattle.pk_type_scope.specs.declared.declarations.Typing.TheVariants.{Void, I
 use Rattle.pk_type_scope.specs.Scopes.{spelled}
 use Rattle.pk_type_expression.specs.Typed.{of_both}
 use Rattle.pk_type_expression.specs.Types.{type_of}
+use Rattle.pk_type_declaration.specs.Checks.{DeclarationChecks}
 use Rattle.pk_type_declaration.specs.Statics.{declaration_trees_at, after_block_declaration, block_declaration_at}
-use Rattle.pk_type_declaration.specs.Walks.{Walked, Adding, here, after_value, value_at, effect_at}
+use Rattle.pk_type_declaration.specs.Walks.{Walked, here, after_value, value_at, effect_at}
 use Rattle.pk_type_jump.specs.declared.labels.Label.{Label}
 use Rattle.pk_type_statement.specs.declared.statements.Case.{Case}
+use Rattle.pk_type_statement.specs.Checks.{StatementChecks}
 use Rattle.pk_type_statement.specs.Statements.{Passed, on, inside, after, with_case, with_default, in_switch, after_start, after_optional_value, after_head}
 
 abbrev pub Labels : Type 0
@@ -67,9 +69,9 @@ abbrev pub optional_effect_at : {F : Type 0} → Walked F → Option ExpressionT
 optional_effect_at w None = Some None
 optional_effect_at w (Some e) = option_map Some (effect_at w e)
 
-abbrev pub start_at : {F : Type 0} → Adding F → ForStartTree → Walked F → Option tree.ForStartTree
-start_at add (declaration d) w = option_map tree.declarations (declaration_trees_at add d w)
-start_at add (expression e) w = option_map tree.expression (optional_effect_at w e)
+abbrev pub start_at : {F : Type 0} → DeclarationChecks F → ForStartTree → Walked F → Option tree.ForStartTree
+start_at c (declaration d) w = option_map tree.declarations (declaration_trees_at c d w)
+start_at c (expression e) w = option_map tree.expression (optional_effect_at w e)
 
 -- the parentheses of a `for`
 pub record HeadTree : Type 0 where
@@ -80,12 +82,12 @@ pub record HeadTree : Type 0 where
 abbrev pub a_head : tree.ForStartTree → Option ValueTree → Option EffectTree → HeadTree
 a_head start test step = record { start = start; test = test; step = step }
 
-abbrev pub head_at : {F : Type 0} → Adding F → ForStartTree → Option ExpressionTree → Option ExpressionTree →
+abbrev pub head_at : {F : Type 0} → DeclarationChecks F → ForStartTree → Option ExpressionTree → Option ExpressionTree →
     Walked F → Option HeadTree
-head_at add start test step w =
-    let v = after_start add start w in
-    of_three a_head (start_at add start w) (optional_value_at v test)
-    (optional_effect_at (after_optional_value add test v) step)
+head_at c start test step w =
+    let v = after_start c start w in
+    of_three a_head (start_at c start w) (optional_value_at v test)
+    (optional_effect_at (after_optional_value c test v) step)
 
 abbrev pub for_tree : Pos → HeadTree → StatementTree → StatementTree
 for_tree at h s = tree.for_loop at h.start h.test h.step s
@@ -95,40 +97,40 @@ declared_all [] items = items
 declared_all (d ∷ ds) items = tree.declared_before d (declared_all ds items)
 
 unfoldable mutual
-  pub typed : {F : Type 0} → Adding F → Typing → Labels → Passed F → ast.StatementTree → Option StatementTree
-  typed add r labels p (ast.block opened items closed) =
-      option_map (tree.block opened) (typed_items add r labels (inside p) items)
-  typed add r labels p (ast.empty at) = Some (tree.empty at)
-  typed add r labels p (ast.expression_statement e) = option_map (tree.effect (first_place_of e)) (effect_at p.walked e)
-  typed add r labels p (ast.label x s) = of_both (tree.label x.at) (label_at labels p.walked x) (typed add r labels p s)
-  typed add r labels p (ast.case at e s) =
-      option_map (tree.case at (length p.cases)) (typed add r labels (with_case add at e p) s)
-  typed add r labels p (ast.default at s) = option_map (tree.default at) (typed add r labels (with_default p) s)
-  typed add r labels p (ast.if_then at e s) =
-      of_both (tree.if_then at) (value_at p.walked e) (typed add r labels (on (after_value add e) p) s)
-  typed add r labels p (ast.if_else at e s t) =
-      let q = on (after_value add e) p in of_three (tree.if_else at) (value_at p.walked e) (typed add r labels q s)
-      (typed add r labels (after add r q s) t)
-  typed add r labels p (ast.switch at e s) =
-      let q = in_switch (on (after_value add e) p) in
-      of_three (switch_of at) (value_at p.walked e) (ended (type_of (here p.walked) e) (after add r q s))
-      (typed add r labels q s)
-  typed add r labels p (ast.while at e s) =
-      of_both (tree.while at) (value_at p.walked e) (typed add r labels (on (after_value add e) p) s)
-  typed add r labels p (ast.do_while at s e) =
-      of_both (tree.do_while at) (typed add r labels p s) (value_at (after add r p s).walked e)
-  typed add r labels p (ast.for_loop at start test step s) =
-      let q = inside p in of_both (for_tree at) (head_at add start test step q.walked)
-      (typed add r labels (on (after_head add start test step) q) s)
-  typed add r labels p (ast.goto at x) = option_map (tree.goto at) (label_at labels p.walked x)
-  typed add r labels p (ast.continue at) = Some (tree.continue at)
-  typed add r labels p (ast.break at) = Some (tree.break at)
-  typed add r labels p (ast.return at e) = option_map (tree.return at) (optional_value_at p.walked e)
+  pub typed : {F : Type 0} → StatementChecks F → Typing → Labels → Passed F → ast.StatementTree → Option StatementTree
+  typed c r labels p (ast.block opened items closed) =
+      option_map (tree.block opened) (typed_items c r labels (inside p) items)
+  typed c r labels p (ast.empty at) = Some (tree.empty at)
+  typed c r labels p (ast.expression_statement e) = option_map (tree.effect (first_place_of e)) (effect_at p.walked e)
+  typed c r labels p (ast.label x s) = of_both (tree.label x.at) (label_at labels p.walked x) (typed c r labels p s)
+  typed c r labels p (ast.case at e s) =
+      option_map (tree.case at (length p.cases)) (typed c r labels (with_case c.declarations at e p) s)
+  typed c r labels p (ast.default at s) = option_map (tree.default at) (typed c r labels (with_default p) s)
+  typed c r labels p (ast.if_then at e s) =
+      of_both (tree.if_then at) (value_at p.walked e) (typed c r labels (on (after_value c.declarations e) p) s)
+  typed c r labels p (ast.if_else at e s t) =
+      let q = on (after_value c.declarations e) p in
+      of_three (tree.if_else at) (value_at p.walked e) (typed c r labels q s) (typed c r labels (after c r q s) t)
+  typed c r labels p (ast.switch at e s) =
+      let q = in_switch (on (after_value c.declarations e) p) in
+      of_three (switch_of at) (value_at p.walked e) (ended (type_of (here p.walked) e) (after c r q s))
+      (typed c r labels q s)
+  typed c r labels p (ast.while at e s) =
+      of_both (tree.while at) (value_at p.walked e) (typed c r labels (on (after_value c.declarations e) p) s)
+  typed c r labels p (ast.do_while at s e) =
+      of_both (tree.do_while at) (typed c r labels p s) (value_at (after c r p s).walked e)
+  typed c r labels p (ast.for_loop at start test step s) =
+      let q = inside p in of_both (for_tree at) (head_at c.declarations start test step q.walked)
+      (typed c r labels (on (after_head c.declarations start test step) q) s)
+  typed c r labels p (ast.goto at x) = option_map (tree.goto at) (label_at labels p.walked x)
+  typed c r labels p (ast.continue at) = Some (tree.continue at)
+  typed c r labels p (ast.break at) = Some (tree.break at)
+  typed c r labels p (ast.return at e) = option_map (tree.return at) (optional_value_at p.walked e)
 
-  pub typed_items : {F : Type 0} → Adding F → Typing → Labels → Passed F → ast.ItemTrees → Option ItemTrees
-  typed_items add r labels p no_items = Some tree.no_items
-  typed_items add r labels p (declaration_then s d items) =
-      of_both declared_all (block_declaration_at add s d p.walked)
-      (typed_items add r labels (on (after_block_declaration add s d) p) items)
-  typed_items add r labels p (statement_then s items) =
-      of_both tree.statement_before (typed add r labels p s) (typed_items add r labels (after add r p s) items)
+  pub typed_items : {F : Type 0} → StatementChecks F → Typing → Labels → Passed F → ast.ItemTrees → Option ItemTrees
+  typed_items c r labels p no_items = Some tree.no_items
+  typed_items c r labels p (declaration_then s d items) =
+      of_both declared_all (block_declaration_at c.declarations s d p.walked)
+      (typed_items c r labels (on (after_block_declaration c.declarations s d) p) items)
+  typed_items c r labels p (statement_then s items) =
+      of_both tree.statement_before (typed c r labels p s) (typed_items c r labels (after c r p s) items)

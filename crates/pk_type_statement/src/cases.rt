@@ -5,11 +5,13 @@ ghost use Rattle.pk_ctypes.specs.Types.{wrapped};
 ghost use Rattle.pk_typed.specs.Views.{value_tree, statement_tree};
 ghost use Rattle.pk_type_scope.specs.Failures.{noted};
 ghost use Rattle.pk_type_declaration.specs.Views.{walked_in};
-ghost use Rattle.pk_type_declaration.specs.Walks as walks;
+ghost use Rattle.pk_type_declaration.specs.Rules.{failing};
+ghost use Rattle.pk_type_statement.specs.Rules as rules;
 ghost use Rattle.pk_type_statement.specs.Numbers.{numbers_in};
 ghost use Rattle.pk_type_statement.specs.Statements as definitions;
 ghost use Rattle.pk_type_statement.specs.Trees as typed;
 ghost use Rattle.pk_type_statement.specs.Views.{passed_in, value_in, statement_in, ended_tree, ended_in};
+ghost use Rattle.pk_type_statement.specs.Rules.{noting};
 
 use crate::boxes::boxed;
 use crate::statements::{Case, Statements};
@@ -29,7 +31,7 @@ struct Numbers {
 
 impl Numbers {
     fn new(alloc: Global) -> Numbers
-        ensures { numbers_in result ≡ definitions.no_number }
+        ensures { numbers_in result ≡ rules.no_number }
     {
         Numbers {
             numbers: HashSet::new(alloc),
@@ -43,7 +45,7 @@ impl Numbers {
     }
 
     fn add(&mut self, number: i128) -> Result<(), AllocError>
-        ensures { OnOk result (numbers_in self.new ≡ definitions.with_number (numbers_in self.old) number) }
+        ensures { OnOk result (numbers_in self.new ≡ rules.with_number (numbers_in self.old) number) }
     {
         let _ = self.numbers.insert(number)?;
         Ok(())
@@ -51,7 +53,7 @@ impl Numbers {
 
     // Whether a case repeats one of them.
     fn is_repeated(&self, int_type: IntType, value: Option<i128>) -> bool
-        ensures { result ≡ definitions.is_repeated int_type (numbers_in self.now) value }
+        ensures { result ≡ rules.is_repeated int_type (numbers_in self.now) value }
     {
         match value {
             None => false,
@@ -61,7 +63,7 @@ impl Numbers {
 
     fn add_case(&mut self, int_type: IntType, value: Option<i128>) -> Result<(), AllocError>
         ensures { OnOk result (numbers_in self.new
-            ≡ definitions.and_case int_type (numbers_in self.old) value) }
+            ≡ rules.and_case int_type (numbers_in self.old) value) }
     {
         match value {
             None => Ok(()),
@@ -87,7 +89,7 @@ fn check(
     cases: &[Case],
 ) -> Result<Option<Vec<i128>>, AllocError>
     ensures walked { OnOk result (walked_in walk.new
-        ≡ walks.failing noted (definitions.repeated int_type definitions.no_number cases.now) (walked_in walk.old)) }
+        ≡ failing noted (rules.repeated int_type rules.no_number cases.now) (walked_in walk.old)) }
     ensures numbers { IfOk result (λ ns. option_map (λ v. v.items) ns ≡ typed.case_numbers int_type cases.now) }
 {
     let mut before = Numbers::new(alloc);
@@ -148,7 +150,7 @@ impl<'a> Statements<'a> {
     // Notes the cases whose value an earlier one has.
     fn end_switch(&mut self, alloc: Global, typing: Typing) -> Result<Option<Ended>, AllocError>
         ensures walked { OnOk result (walked_in self.new.walk
-            ≡ walks.failing noted (definitions.repeated_cases typing (passed_in self.old).cases)
+            ≡ failing noted (rules.repeated_cases typing (passed_in self.old).cases)
             (walked_in self.old.walk)) }
         ensures ended { IfOk result (λ e. option_map ended_tree e ≡ typed.ended typing (passed_in self.old)) }
     {
@@ -171,7 +173,7 @@ impl<'a> Statements<'a> {
         outer: Outer,
     ) -> Result<Option<Box<Ended>>, AllocError>
         ensures passed { OnOk result (passed_in self.new
-            ≡ definitions.after_switch noted typing outer.cases.items outer.has_default (passed_in self.old)) }
+            ≡ definitions.after_switch noting typing outer.cases.items outer.has_default (passed_in self.old)) }
         ensures ended { IfOk result (λ e. ended_in e ≡ typed.ended typing (passed_in self.old)) }
     {
         let ended = self.end_switch(alloc, typing)?;

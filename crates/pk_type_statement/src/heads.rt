@@ -5,11 +5,11 @@ ghost use Rattle.pk_ast.specs.Views.{expression_tree};
 ghost use Rattle.pk_ast.specs.Views as ast;
 ghost use Rattle.pk_typed.specs.Trees as tree;
 ghost use Rattle.pk_typed.specs.Views.{value_tree, effect_tree, declared_trees, for_start_tree, statement_tree};
-ghost use Rattle.pk_type_scope.specs.Failures.{noted};
 ghost use Rattle.pk_type_expression.specs.Typed.{of_both};
 ghost use Rattle.pk_type_statement.specs.Statements as definitions;
 ghost use Rattle.pk_type_statement.specs.Trees as typed;
 ghost use Rattle.pk_type_statement.specs.Views.{passed_in, head_in, head_tree, statement_in};
+ghost use Rattle.pk_type_statement.specs.Rules.{noting};
 
 use crate::boxes::boxed;
 use crate::statements::Statements;
@@ -88,9 +88,10 @@ impl<'a> Statements<'a> {
         start: &ForStart,
     ) -> Result<Option<typed::ForStart>, AllocError>
         ensures passed { OnOk result (passed_in self.new
-            ≡ definitions.on (definitions.after_start noted (ast.for_start_tree start.now)) (passed_in self.old)) }
+            ≡ definitions.on (definitions.after_start noting.declarations (ast.for_start_tree start.now))
+            (passed_in self.old)) }
         ensures tree { IfOk result (λ t. option_map for_start_tree t
-            ≡ typed.start_at noted (ast.for_start_tree start.now) (passed_in self.old).walked) }
+            ≡ typed.start_at noting.declarations (ast.for_start_tree start.now) (passed_in self.old).walked) }
     {
         match start {
             ForStart::Declaration(d) => {
@@ -111,10 +112,10 @@ impl<'a> Statements<'a> {
         head: &ForHead,
     ) -> Result<Option<Box<typed::ForHead>>, AllocError>
         ensures passed { let h = head.now in OnOk result (passed_in self.new
-            ≡ definitions.on (definitions.after_head noted (ast.for_start_tree h.start)
+            ≡ definitions.on (definitions.after_head noting.declarations (ast.for_start_tree h.start)
             (option_map expression_tree h.condition) (option_map expression_tree h.step)) (passed_in self.old)) }
         ensures tree { let h = head.now in IfOk result (λ t. head_in t
-            ≡ typed.head_at noted (ast.for_start_tree h.start) (option_map expression_tree h.condition)
+            ≡ typed.head_at noting.declarations (ast.for_start_tree h.start) (option_map expression_tree h.condition)
             (option_map expression_tree h.step) (passed_in self.old).walked) }
     {
         let start = self.start(alloc, &head.start)?;

@@ -3,16 +3,17 @@
 ghost use Rattle.std.specs.Prelude.{◌≡◌, ◌<◌, ◌∷◌, ◌++◌, [], Option, option_map, is_some, Some, IfOk, OnOk, length};
 ghost use Rattle.pk_ast.specs.Views.{expression_tree, declaration_tree};
 ghost use Rattle.pk_typed.specs.Views.{value_tree, effect_tree, declared_trees};
-ghost use Rattle.pk_type_scope.specs.Failures.{noted};
 ghost use Rattle.pk_type_scope.specs.declared.failures.Failure.{Failure};
 ghost use Rattle.pk_type_expression.specs.Types.{type_of};
 ghost use Rattle.pk_type_jump.specs.Views.{labels_in};
 ghost use Rattle.pk_type_declaration.specs.Statics.{after_block_declaration, block_declaration_at};
 ghost use Rattle.pk_type_declaration.specs.Walks as walks;
 ghost use Rattle.pk_type_declaration.specs.Walks.{Walked};
+ghost use Rattle.pk_type_statement.specs.Rules as rules;
 ghost use Rattle.pk_type_statement.specs.Statements as definitions;
 ghost use Rattle.pk_type_statement.specs.Trees as typed;
 ghost use Rattle.pk_type_statement.specs.Views.{passed_in, value_in};
+ghost use Rattle.pk_type_statement.specs.Rules.{noting};
 
 use crate::boxes::unboxed;
 use pk_ast::{Declaration, Expression, Identifier};
@@ -39,7 +40,7 @@ pub struct Statements<'a> {
 }
 
 fn returns_otherwise(returns: Typing, has_value: bool) -> bool
-    ensures { result ≡ definitions.returns_otherwise returns has_value }
+    ensures { result ≡ rules.returns_otherwise returns has_value }
 {
     match returns {
         Typing::Void => has_value,
@@ -56,7 +57,7 @@ impl<'a> Statements<'a> {
         e: &Expression,
     ) -> Result<Option<Box<Value>>, AllocError>
         ensures passed { OnOk result (passed_in self.new
-            ≡ definitions.on (walks.after_value noted (expression_tree e.now)) (passed_in self.old)) }
+            ≡ definitions.on (walks.after_value noting.declarations (expression_tree e.now)) (passed_in self.old)) }
         ensures value { IfOk result (λ v. value_in v
             ≡ walks.value_at (passed_in self.old).walked (expression_tree e.now)) }
     {
@@ -70,7 +71,7 @@ impl<'a> Statements<'a> {
         e: &Expression,
     ) -> Result<Option<Effect>, AllocError>
         ensures passed { OnOk result (passed_in self.new
-            ≡ definitions.on (walks.after_effect noted (expression_tree e.now)) (passed_in self.old)) }
+            ≡ definitions.on (walks.after_effect noting.declarations (expression_tree e.now)) (passed_in self.old)) }
         ensures effect { IfOk result (λ v. option_map effect_tree v
             ≡ walks.effect_at (passed_in self.old).walked (expression_tree e.now)) }
     {
@@ -84,7 +85,7 @@ impl<'a> Statements<'a> {
         e: &Option<Expression>,
     ) -> Result<Option<Option<Value>>, AllocError>
         ensures passed { OnOk result (passed_in self.new
-            ≡ definitions.on (definitions.after_optional_value noted (option_map expression_tree e.now))
+            ≡ definitions.on (definitions.after_optional_value noting.declarations (option_map expression_tree e.now))
             (passed_in self.old)) }
         ensures value { IfOk result (λ v. option_map (option_map value_tree) v
             ≡ typed.optional_value_at (passed_in self.old).walked (option_map expression_tree e.now)) }
@@ -105,7 +106,7 @@ impl<'a> Statements<'a> {
         e: &Option<Expression>,
     ) -> Result<Option<Option<Effect>>, AllocError>
         ensures passed { OnOk result (passed_in self.new
-            ≡ definitions.on (definitions.after_optional_effect noted (option_map expression_tree e.now))
+            ≡ definitions.on (definitions.after_optional_effect noting.declarations (option_map expression_tree e.now))
             (passed_in self.old)) }
         ensures effect { IfOk result (λ v. option_map (option_map effect_tree) v
             ≡ typed.optional_effect_at (passed_in self.old).walked (option_map expression_tree e.now)) }
@@ -128,7 +129,7 @@ impl<'a> Statements<'a> {
         e: &Option<Expression>,
     ) -> Result<Option<Option<Value>>, AllocError>
         ensures passed { OnOk result (passed_in self.new
-            ≡ definitions.on (definitions.after_return noted returns at (option_map expression_tree e.now))
+            ≡ definitions.on (definitions.after_return noting returns at (option_map expression_tree e.now))
             (passed_in self.old)) }
         ensures value { IfOk result (λ v. option_map (option_map value_tree) v
             ≡ typed.optional_value_at (passed_in self.old).walked (option_map expression_tree e.now)) }
@@ -141,7 +142,7 @@ impl<'a> Statements<'a> {
     /// A case, whose number is how many were before it.
     pub(crate) fn case(&mut self, alloc: Global, at: Pos, e: &Expression) -> Result<(), AllocError>
         ensures { OnOk result (passed_in self.new
-            ≡ definitions.with_case noted at (expression_tree e.now) (passed_in self.old)) }
+            ≡ definitions.with_case noting.declarations at (expression_tree e.now) (passed_in self.old)) }
     {
         let evaluated = self.walk.constant(alloc, e)?;
         self.cases.push(Case {
@@ -165,7 +166,7 @@ impl<'a> Statements<'a> {
         e: &Expression,
     ) -> Result<(Typing, Option<Box<Value>>), AllocError>
         ensures passed { OnOk result (passed_in self.new
-            ≡ definitions.on (walks.after_value noted (expression_tree e.now)) (passed_in self.old)) }
+            ≡ definitions.on (walks.after_value noting.declarations (expression_tree e.now)) (passed_in self.old)) }
         ensures typing { IfOk result (λ r. r.0
             ≡ type_of (walks.here (passed_in self.old).walked) (expression_tree e.now)) }
         ensures value { IfOk result (λ r. value_in r.1
@@ -182,9 +183,10 @@ impl<'a> Statements<'a> {
         d: &Declaration,
     ) -> Result<Option<Vec<Declared>>, AllocError>
         ensures passed { OnOk result (passed_in self.new
-            ≡ definitions.on (after_block_declaration noted is_static (declaration_tree d.now)) (passed_in self.old)) }
+            ≡ definitions.on (after_block_declaration noting.declarations is_static (declaration_tree d.now))
+            (passed_in self.old)) }
         ensures trees { IfOk result (λ t. option_map (λ v. declared_trees v.items) t
-            ≡ block_declaration_at noted is_static (declaration_tree d.now) (passed_in self.old).walked) }
+            ≡ block_declaration_at noting.declarations is_static (declaration_tree d.now) (passed_in self.old).walked) }
     {
         self.walk.block_declaration(alloc, is_static, d)
     }

@@ -5,10 +5,10 @@ ghost use Rattle.pk_ast.specs.Trees as tree;
 ghost use Rattle.pk_ast.specs.Views as ast;
 ghost use Rattle.pk_typed.specs.Views.{item_trees};
 ghost use Rattle.pk_type_jump.specs.Views.{labels_in};
-ghost use Rattle.pk_type_scope.specs.Failures.{noted};
 ghost use Rattle.pk_type_statement.specs.Statements as definitions;
 ghost use Rattle.pk_type_statement.specs.Trees as typed;
 ghost use Rattle.pk_type_statement.specs.Views.{passed_in, statement_in};
+ghost use Rattle.pk_type_statement.specs.Rules.{noting};
 
 use crate::boxes::boxed;
 use crate::cases::switch;
@@ -42,9 +42,9 @@ pub fn statement(
     s: &Statement,
 ) -> Result<Option<Box<typed::Statement>>, AllocError>
     ensures passed { OnOk result (passed_in to.new
-        ≡ definitions.after noted around.now.returns (passed_in to.old) (ast.statement_tree s.now)) }
+        ≡ definitions.after noting around.now.returns (passed_in to.old) (ast.statement_tree s.now)) }
     ensures tree { IfOk result (λ t. statement_in t
-        ≡ typed.typed noted around.now.returns (labels_in around.now.labels.now) (passed_in to.old)
+        ≡ typed.typed noting around.now.returns (labels_in around.now.labels.now) (passed_in to.old)
         (ast.statement_tree s.now)) }
 {
     let alloc = around.alloc;
@@ -125,10 +125,10 @@ fn switch_statement(
     e: &Expression,
 ) -> Result<Option<Box<typed::Statement>>, AllocError>
     ensures passed { OnOk result (passed_in to.new
-        ≡ definitions.after noted around.now.returns (passed_in to.old)
+        ≡ definitions.after noting around.now.returns (passed_in to.old)
         (tree.switch at (ast.expression_tree e.now) (ast.statement_tree body.now))) }
     ensures tree { IfOk result (λ t. statement_in t
-        ≡ typed.typed noted around.now.returns (labels_in around.now.labels.now) (passed_in to.old)
+        ≡ typed.typed noting around.now.returns (labels_in around.now.labels.now) (passed_in to.old)
         (tree.switch at (ast.expression_tree e.now) (ast.statement_tree body.now))) }
 {
     let alloc = around.alloc;
@@ -150,11 +150,11 @@ fn for_statement(
     body: &Statement,
 ) -> Result<Option<Box<typed::Statement>>, AllocError>
     ensures passed { let h = head.now in OnOk result (passed_in to.new
-        ≡ definitions.after noted around.now.returns (passed_in to.old)
+        ≡ definitions.after noting around.now.returns (passed_in to.old)
         (tree.for_loop at (ast.for_start_tree h.start) (option_map ast.expression_tree h.condition)
         (option_map ast.expression_tree h.step) (ast.statement_tree body.now))) }
     ensures tree { let h = head.now in IfOk result (λ t. statement_in t
-        ≡ typed.typed noted around.now.returns (labels_in around.now.labels.now) (passed_in to.old)
+        ≡ typed.typed noting around.now.returns (labels_in around.now.labels.now) (passed_in to.old)
         (tree.for_loop at (ast.for_start_tree h.start) (option_map ast.expression_tree h.condition)
         (option_map ast.expression_tree h.step) (ast.statement_tree body.now))) }
 {
@@ -175,10 +175,10 @@ fn block_items(
     list: &[BlockItem],
 ) -> Result<Option<Vec<Item>>, AllocError>
     ensures passed { OnOk result (passed_in to.new
-        ≡ definitions.outside (passed_in to.old) (definitions.after_items noted around.now.returns
+        ≡ definitions.outside (passed_in to.old) (definitions.after_items noting around.now.returns
         (definitions.inside (passed_in to.old)) (ast.item_trees list.now))) }
     ensures trees { IfOk result (λ t. option_map (λ v. item_trees v.items) t
-        ≡ typed.typed_items noted around.now.returns (labels_in around.now.labels.now)
+        ≡ typed.typed_items noting around.now.returns (labels_in around.now.labels.now)
         (definitions.inside (passed_in to.old)) (ast.item_trees list.now)) }
 {
     to.enter(around.alloc)?;
@@ -195,9 +195,9 @@ pub fn body_items(
     list: &[BlockItem],
 ) -> Result<Option<Vec<Item>>, AllocError>
     ensures passed { OnOk result (passed_in to.new
-        ≡ definitions.after_items noted around.now.returns (passed_in to.old) (ast.item_trees list.now)) }
+        ≡ definitions.after_items noting around.now.returns (passed_in to.old) (ast.item_trees list.now)) }
     ensures trees { IfOk result (λ t. option_map (λ v. item_trees v.items) t
-        ≡ typed.typed_items noted around.now.returns (labels_in around.now.labels.now) (passed_in to.old)
+        ≡ typed.typed_items noting around.now.returns (labels_in around.now.labels.now) (passed_in to.old)
         (ast.item_trees list.now)) }
 {
     let alloc = around.alloc;

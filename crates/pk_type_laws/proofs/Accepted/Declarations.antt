@@ -35,9 +35,11 @@ use Rattle.pk_type_constant.specs.declared.constants.Constant.TheVariants.{Numbe
 use Rattle.pk_type_constant.specs.Forms.{is_constant_form}
 use Rattle.pk_type_declaration.specs.declared.words.Words.{Words}
 use Rattle.pk_type_declaration.specs.Constants.{given_by, evaluated, is_refused, is_refused_length, is_outside, is_length, number_of, magnitude, length_in, after_constant, after_length}
-use Rattle.pk_type_declaration.specs.Declarations.{integer_in, type_or_int, object_at, at_name, redeclared, void_object, special_object, braces, misfit, misfit_at, after_initializer, length_at, after_columns, after_dimensions, length_or_1, local_of, after_object, after_head, after_declarator, after_declarators, scalar_tree, array_tree, declarator_tree_at, declarator_trees_at}
-use Rattle.pk_type_declaration.specs.Initializers.{followed_by, item_values, items_values, braced_values, first_misfit}
-use Rattle.pk_type_declaration.specs.Walks.{StaticsTree, here, failing, after_value, after_values, value_at, values_at}
+use Rattle.pk_type_declaration.specs.Declarations.{integer_in, type_or_int, object_at, after_initializer, length_at, after_columns, after_dimensions, length_or_1, local_of, after_object, after_head, after_declarator, after_declarators, scalar_tree, array_tree, declarator_tree_at, declarator_trees_at}
+use Rattle.pk_type_declaration.specs.Initializers.{followed_by, item_values, items_values, braced_values}
+use Rattle.pk_type_declaration.specs.Walks.{StaticsTree, here, after_value, after_values, value_at, values_at}
+use Rattle.pk_type_declaration.specs.Rules as declarations
+use Rattle.pk_type_declaration.specs.Rules.{at_name, redeclared, void_object, special_object, braces, misfit, misfit_at, first_misfit, failing}
 use Rattle.pk_welltyped.specs.Listed.{numbered, calls_in_declared, calls_in_all_declared, objects_in_declared, objects_in_all_declared}
 use Rattle.pk_welltyped.specs.WellTyped as good
 use Rattle.pk_welltyped.specs.WellTyped.{Around, IsObject, AreValues, kind_among, IsDeclared, AreDeclared, IsValueIf, AreValuesIf}
@@ -160,7 +162,7 @@ nth (y ∷ xs) x ys = nth xs x ys
 
 -- ---- constant expressions
 
-pub no_site : (e : ExpressionTree) (w : W) → is_constant_form (here w) e ≡ true → Steps w (after_value noted e w) [] 0
+pub no_site : (e : ExpressionTree) (w : W) → is_constant_form (here w) e ≡ true → Steps w (after_value declarations.noting e w) [] 0
 no_site e w h = record { sites = calls (here w) e; calls = refl; listed = sym (ap (numbered (length w.calls)) (no_calls (here w) e h)); objects = sym (add-zero (length w.locals)) }
 
 pub or_left : (a b : Bool) → (not a || b) ≡ false → a ≡ true
@@ -171,17 +173,17 @@ or_right : (a b : Bool) → (not a || b) ≡ false → b ≡ false
 or_right true b h = h
 or_right false b h = absurd (false≢true (sym h))
 
-pub constant_steps : (e : ExpressionTree) (w : W) → (after_constant noted e w).found ≡ None → Steps w (after_constant noted e w) [] 0
+pub constant_steps : (e : ExpressionTree) (w : W) → (after_constant declarations.noting e w).found ≡ None → Steps w (after_constant declarations.noting e w) [] 0
 constant_steps e w h =
-    let r = none_found (after_value noted e w).found (fails_if (is_refused (evaluated w e)) rule.Constant (first_place_of e)) h in
+    let r = none_found (after_value declarations.noting e w).found (fails_if (is_refused (evaluated w e)) rule.Constant (first_place_of e)) h in
     let s = no_site e w (or_left (is_constant_form (here w) e) _ (holds_not _ _ _ r.1)) in
     record { sites = s.sites; calls = s.calls; listed = s.listed; objects = s.objects }
 
-pub later_constant : (e : ExpressionTree) (w : W) → Later w (after_constant noted e w)
-later_constant e w = later w (after_value noted e w) _ (later_value e w) (later_failing (fails_if (is_refused (evaluated w e)) rule.Constant (first_place_of e)) (after_value noted e w))
+pub later_constant : (e : ExpressionTree) (w : W) → Later w (after_constant declarations.noting e w)
+later_constant e w = later w (after_value declarations.noting e w) _ (later_value e w) (later_failing (fails_if (is_refused (evaluated w e)) rule.Constant (first_place_of e)) (after_value declarations.noting e w))
 
-pub later_length : (e : ExpressionTree) (w : W) → Later w (after_length noted e w)
-later_length e w = later w (after_value noted e w) _ (later_value e w) (later_failing (fails_if (is_refused_length (evaluated w e)) rule.Constant (first_place_of e)) (after_value noted e w))
+pub later_length : (e : ExpressionTree) (w : W) → Later w (after_length declarations.noting e w)
+later_length e w = later w (after_value declarations.noting e w) _ (later_value e w) (later_failing (fails_if (is_refused_length (evaluated w e)) rule.Constant (first_place_of e)) (after_value declarations.noting e w))
 
 -- ---- lengths of arrays
 
@@ -230,22 +232,22 @@ pub is_used : (d : Names) (e : ExpressionTree) → void d e ≡ [] → is_void (
 unfolding void
 is_used d e h = holds_not _ _ _ h
 
-pub length_has : (w : W) (e : ExpressionTree) → ((x : Identifier) → HasTypes (here w x)) → (after_length noted e w).found ≡ None → KnownLength (length_in (evaluated w e))
+pub length_has : (w : W) (e : ExpressionTree) → ((x : Identifier) → HasTypes (here w x)) → (after_length declarations.noting e w).found ≡ None → KnownLength (length_in (evaluated w e))
 length_has w e k h =
-    let r = none_found (after_value noted e w).found (fails_if (is_refused_length (evaluated w e)) rule.Constant (first_place_of e)) h in
+    let r = none_found (after_value declarations.noting e w).found (fails_if (is_refused_length (evaluated w e)) rule.Constant (first_place_of e)) h in
     let f : used_failures (here w) e ≡ [] = (none_found w.found (used_failures (here w) e) r.0).1 in
     let is : is_refused_length (evaluated w e) ≡ false = holds_not _ _ _ r.1 in
     let t = accepted_expressions_have_trees (here w) k (length w.calls) e (none_before (failures (here w) e) (void (here w) e) f) in
     length_of (is_constant_form (here w) e) (given_by (value_at w e)) is
     (value_gives (type_of (here w) e) (typed (here w) (length w.calls) e) t (is_used (here w) e (none_after (failures (here w) e) (void (here w) e) f)) (numeric (here w) (length w.calls) e (or_left (is_constant_form (here w) e) _ is)))
 
-pub length_known : (u : UnitTree) (ls : List LocalTree) (w : W) (e : ExpressionTree) → NamesAre (around u ls w) (here w) → (after_length noted e w).found ≡ None → KnownLength (length_in (evaluated w e))
+pub length_known : (u : UnitTree) (ls : List LocalTree) (w : W) (e : ExpressionTree) → NamesAre (around u ls w) (here w) → (after_length declarations.noting e w).found ≡ None → KnownLength (length_in (evaluated w e))
 length_known u ls w e n h = length_has w e (λ x. has_types (around u ls w) (here w x) (n x)) h
 
 -- a length calls nothing
-pub length_steps : (e : ExpressionTree) (w : W) → (after_length noted e w).found ≡ None → Steps w (after_length noted e w) [] 0
+pub length_steps : (e : ExpressionTree) (w : W) → (after_length declarations.noting e w).found ≡ None → Steps w (after_length declarations.noting e w) [] 0
 length_steps e w h =
-    let r = none_found (after_value noted e w).found (fails_if (is_refused_length (evaluated w e)) rule.Constant (first_place_of e)) h in
+    let r = none_found (after_value declarations.noting e w).found (fails_if (is_refused_length (evaluated w e)) rule.Constant (first_place_of e)) h in
     let s = no_site e w (or_left (is_constant_form (here w) e) _ (holds_not _ _ _ r.1)) in
     record { sites = s.sites; calls = s.calls; listed = s.listed; objects = s.objects }
 
@@ -279,12 +281,12 @@ InitialPart u ls w v i (Some (tree.array_object k at es)) = ⊥
 InitialPart u ls w v i (Some (tree.static_object k at)) = ⊥
 InitialPart u ls w v i (Some (tree.hiding_constant x at)) = ⊥
 
-scalar_part : (u : UnitTree) (ls : List LocalTree) (w : W) (i : ℕ) (at : Pos) (x : Option InitializerTree) → NamesAre (around u ls w) (here w) → InitializerHas x → (after_initializer noted x w).found ≡ None
-    → InitialPart u ls w (after_initializer noted x w) i (scalar_tree i at x w)
+scalar_part : (u : UnitTree) (ls : List LocalTree) (w : W) (i : ℕ) (at : Pos) (x : Option InitializerTree) → NamesAre (around u ls w) (here w) → InitializerHas x → (after_initializer declarations.noting x w).found ≡ None
+    → InitialPart u ls w (after_initializer declarations.noting x w) i (scalar_tree i at x w)
 scalar_part u ls w i at None n k h = (refl, tt, steps_none w w refl refl)
 scalar_part u ls w i at (Some (single e)) n k h = valued (value_at w e) (value_part (around u ls w) w e n k h)
   where
-    valued : (o : Option ValueTree) → ValuePart (around u ls w) w (after_value noted e w) o → InitialPart u ls w (after_value noted e w) i (option_map (λ v. tree.scalar_object i at (Some v)) o)
+    valued : (o : Option ValueTree) → ValuePart (around u ls w) w (after_value declarations.noting e w) o → InitialPart u ls w (after_value declarations.noting e w) i (option_map (λ v. tree.scalar_object i at (Some v)) o)
     valued None p = tt
     valued (Some v) p = (refl, p.0, p.1)
 scalar_part u ls w i at (Some (braced o is)) n k h = tt
@@ -302,12 +304,12 @@ items_part u ls w v i n m at None l h = tt
 items_part u ls w v i n m at (Some es) l h = (refl, omega (l, h.2, arith), h.0, h.1)
 
 array_part : (u : UnitTree) (ls : List LocalTree) (w : W) (i n : ℕ) (at : Pos) (x : Option InitializerTree) → NamesAre (around u ls w) (here w) → InitializerHas x → misfit (Some n) x ≡ []
-    → (after_initializer noted x w).found ≡ None → ArrayPart u ls w (after_initializer noted x w) i n (array_tree i at x w)
+    → (after_initializer declarations.noting x w).found ≡ None → ArrayPart u ls w (after_initializer declarations.noting x w) i n (array_tree i at x w)
 array_part u ls w i n at None g k s h = (refl, omega arith, tt, steps_none w w refl refl)
 array_part u ls w i n at (Some (single e)) g k s h = tt
 array_part u ls w i n at (Some (braced o is)) g k s h =
     let all = is.first ∷ is.more in
-    items_part u ls w (after_values noted (items_values all) w) i n (count (items_values all)) at (values_at w (items_values all)) (room all n s) (values_part (around u ls w) w (items_values all) g (items_have all k) h)
+    items_part u ls w (after_values declarations.noting (items_values all) w) i n (count (items_values all)) at (values_at w (items_values all)) (room all n s) (values_part (around u ls w) w (items_values all) g (items_have all k) h)
 
 -- ---- a declarator
 
@@ -327,15 +329,15 @@ pub record Declared (u : UnitTree) (ls : List LocalTree) (w v : W) (t : IntType)
   pub names : NamesAre (around u ls v) (here v)
   pub calls : Steps w v [] 1
 
-pub not_void : (words : Words) (b : Bool) (n : Option ℕ) (x : Identifier) (w : W) → (after_object noted words b n x w).found ≡ None → is_void words.typing ≡ false
+pub not_void : (words : Words) (b : Bool) (n : Option ℕ) (x : Identifier) (w : W) → (after_object declarations.noting words b n x w).found ≡ None → is_void words.typing ≡ false
 not_void words b n x w h =
     let rows : redeclared w.scoping x ++ void_object words.typing x.at ++ special_object w.scoping x ≡ [] = (none_found w.found (at_name w.scoping words.typing x) h).1 in
     holds_not _ _ _ (none_after (redeclared w.scoping x) (void_object words.typing x.at) (none_before (redeclared w.scoping x ++ void_object words.typing x.at) (special_object w.scoping x) rows))
 
 pub object_declared : (u : UnitTree) (ls : List LocalTree) (words : Words) (b : Bool) (n : Option ℕ) (x : Identifier) (w : W) → NamesAre (around u ls w) (here w) → is_unknown words.typing ≡ false
-    → Begins u ls (after_object noted words b n x w) → (after_object noted words b n x w).found ≡ None → Declared u ls w (after_object noted words b n x w) (type_or_int words.typing) (length_or_1 b n)
+    → Begins u ls (after_object declarations.noting words b n x w) → (after_object declarations.noting words b n x w).found ≡ None → Declared u ls w (after_object declarations.noting words b n x w) (type_or_int words.typing) (length_or_1 b n)
 object_declared u ls words b n x w g unknown begins h =
-    let v = after_object noted words b n x w in
+    let v = after_object declarations.noting words b n x w in
     let l = local_of words.typing w.scoping b n x in
     let fs = none_found w.found (at_name w.scoping words.typing x) h in
     let void : is_void words.typing ≡ false = not_void words b n x w h in
@@ -357,41 +359,41 @@ object_declared u ls words b n x w g unknown begins h =
 
 -- ---- later places, whatever fails
 
-later_columns : (at : Pos) (e : Option ExpressionTree) (w : W) → Later w (after_columns noted at e w)
+later_columns : (at : Pos) (e : Option ExpressionTree) (w : W) → Later w (after_columns declarations.noting at e w)
 later_columns at None w = later_same w
-later_columns at (Some e) w = later w (after_length noted e w) _ (later_length e w) (later_failing (fails_if true rule.Array at) (after_length noted e w))
+later_columns at (Some e) w = later w (after_length declarations.noting e w) _ (later_length e w) (later_failing (fails_if true rule.Array at) (after_length declarations.noting e w))
 
-pub later_dimensions : (at : Pos) (d : Option DimensionsTree) (w : W) → Later w (after_dimensions noted at d w)
+pub later_dimensions : (at : Pos) (d : Option DimensionsTree) (w : W) → Later w (after_dimensions declarations.noting at d w)
 later_dimensions at None w = later_same w
-later_dimensions at (Some d) w = later w (after_length noted d.length w) _ (later_length d.length w) (later_columns at d.columns (after_length noted d.length w))
+later_dimensions at (Some d) w = later w (after_length declarations.noting d.length w) _ (later_length d.length w) (later_columns at d.columns (after_length declarations.noting d.length w))
 
 -- an array of rows and columns isn't accepted
-pub no_columns : (at : Pos) (e : ExpressionTree) (w : W) → (after_columns noted at (Some e) w).found ≡ None → ⊥
-no_columns at e w h = false≢true (sym (holds_not true rule.Array at (none_found (after_length noted e w).found (fails_if true rule.Array at) h).1))
+pub no_columns : (at : Pos) (e : ExpressionTree) (w : W) → (after_columns declarations.noting at (Some e) w).found ≡ None → ⊥
+no_columns at e w h = false≢true (sym (holds_not true rule.Array at (none_found (after_length declarations.noting e w).found (fails_if true rule.Array at) h).1))
 
-pub later_object : (words : Words) (b : Bool) (n : Option ℕ) (x : Identifier) (w : W) → Later w (after_object noted words b n x w)
+pub later_object : (words : Words) (b : Bool) (n : Option ℕ) (x : Identifier) (w : W) → Later w (after_object declarations.noting words b n x w)
 later_object words b n x w = record { found = λ h. (none_found w.found (at_name w.scoping words.typing x) h).0; more = local_of words.typing w.scoping b n x ∷ []; locals = refl; statics = statics_same w.statics }
 
-later_head : (words : Words) (d : DeclaratorTree) (w : W) → Later w (after_head noted words d w)
+later_head : (words : Words) (d : DeclaratorTree) (w : W) → Later w (after_head declarations.noting words d w)
 later_head words d w =
     let n = length_at w d.dimensions in
-    let w1 = after_dimensions noted d.name.at d.dimensions w in
-    let v = after_object noted words (is_some d.dimensions) n d.name w1 in
+    let w1 = after_dimensions declarations.noting d.name.at d.dimensions w in
+    let v = after_object declarations.noting words (is_some d.dimensions) n d.name w1 in
     later w w1 _ (later_dimensions d.name.at d.dimensions w) (later w1 v _ (later_object words (is_some d.dimensions) n d.name w1) (later_failing (braces (is_some d.dimensions) d.initializer d.name.at ++ misfit n d.initializer) v))
 
-later_initializer : (x : Option InitializerTree) (w : W) → Later w (after_initializer noted x w)
+later_initializer : (x : Option InitializerTree) (w : W) → Later w (after_initializer declarations.noting x w)
 later_initializer None w = later_same w
 later_initializer (Some (single e)) w = later_value e w
 later_initializer (Some (braced at is)) w = later_values (braced_values is) w
 
-pub later_declarator : (words : Words) (d : DeclaratorTree) (w : W) → Later w (after_declarator noted words d w)
+pub later_declarator : (words : Words) (d : DeclaratorTree) (w : W) → Later w (after_declarator declarations.noting words d w)
 unfolding after_declarator
-later_declarator words d w = later w (after_head noted words d w) _ (later_head words d w) (later_initializer d.initializer (after_head noted words d w))
+later_declarator words d w = later w (after_head declarations.noting words d w) _ (later_head words d w) (later_initializer d.initializer (after_head declarations.noting words d w))
 
-pub later_declarators : (words : Words) (ds : List DeclaratorTree) (w : W) → Later w (after_declarators noted words ds w)
+pub later_declarators : (words : Words) (ds : List DeclaratorTree) (w : W) → Later w (after_declarators declarations.noting words ds w)
 unfolding after_declarators
 later_declarators words [] w = later_same w
-later_declarators words (d ∷ ds) w = later w (after_declarator noted words d w) _ (later_declarator words d w) (later_declarators words ds (after_declarator noted words d w))
+later_declarators words (d ∷ ds) w = later w (after_declarator declarations.noting words d w) _ (later_declarator words d w) (later_declarators words ds (after_declarator declarations.noting words d w))
 
 -- ---- declarators
 
@@ -417,7 +419,7 @@ array_declared u ls w v x t n (Some (tree.hiding_constant y at)) k few some s p 
 array_declared u ls w v x t n (Some (tree.array_object i at es)) k few some s p =
     ((p.0, (t, n, ap (kind_among ls) p.0 ∙ k, p.1, few, some), subst (λ (m : ℕ). AreValuesIf (record { unit = u; locals = ls; objects = m }) es) s.objects p.2), steps w v x [] (calls_in_declared (tree.array_object i at es)) 1 0 s p.3)
 
-initial_names : (u : UnitTree) (ls : List LocalTree) (x : Option InitializerTree) (w : W) → NamesAre (around u ls w) (here w) → NamesAre (around u ls (after_initializer noted x w)) (here (after_initializer noted x w))
+initial_names : (u : UnitTree) (ls : List LocalTree) (x : Option InitializerTree) (w : W) → NamesAre (around u ls w) (here w) → NamesAre (around u ls (after_initializer declarations.noting x w)) (here (after_initializer declarations.noting x w))
 initial_names u ls None w h = h
 initial_names u ls (Some (single e)) w h = h
 initial_names u ls (Some (braced at is)) w h = h
@@ -429,14 +431,14 @@ record Declaring (u : UnitTree) (ls : List LocalTree) (w v : W) (o : Option Decl
 -- of an array
 array_of : (u : UnitTree) (ls : List LocalTree) (words : Words) (x : Identifier) (e : ExpressionTree) (c : Option ExpressionTree) (i : Option InitializerTree) (w : W) → NamesAre (around u ls w) (here w) → is_unknown words.typing ≡ false
     → InitializerHas i
-    → (let d : DeclaratorTree = record { name = x; dimensions = Some (record { length = e; columns = c }); initializer = i } in let v = after_declarator noted words d w in Begins u ls v → v.found ≡ None → Declaring u ls w v (declarator_tree_at noted words d w))
+    → (let d : DeclaratorTree = record { name = x; dimensions = Some (record { length = e; columns = c }); initializer = i } in let v = after_declarator declarations.noting words d w in Begins u ls v → v.found ≡ None → Declaring u ls w v (declarator_tree_at declarations.noting words d w))
 unfolding after_declarator declarator_tree_at
 array_of u ls words x e None i w n unknown ki begins h =
     let d : DeclaratorTree = record { name = x; dimensions = Some (record { length = e; columns = None }); initializer = i } in
-    let w1 = after_length noted e w in
+    let w1 = after_length declarations.noting e w in
     let m = length_in (evaluated w e) in
     let fs = braces true i x.at ++ misfit m i in
-    let v0 = after_object noted words true m x w1 in
+    let v0 = after_object declarations.noting words true m x w1 in
     let v1 = failing noted fs v0 in
     let f1 : v1.found ≡ None = (later_initializer i v1).found h in
     let f0 = none_found v0.found fs f1 in
@@ -450,25 +452,25 @@ array_of u ls words x e None i w n unknown ki begins h =
     let kind : kind_among ls (length w.locals) ≡ Some (array_kind (type_or_int words.typing) k.0) = o.kind ∙ ap (λ (q : Option ℕ). Some (record { int_type = type_or_int words.typing; length = length_or_1 true q })) k.1 in
     record {
       names = initial_names u ls i v1 o.names;
-      part = array_declared u ls w v1 (after_initializer noted i v1) (type_or_int words.typing) k.0 (array_tree (length w.locals) x.at i v1) kind k.2 k.3 (steps w w1 v1 [] [] 0 1 s1 s)
+      part = array_declared u ls w v1 (after_initializer declarations.noting i v1) (type_or_int words.typing) k.0 (array_tree (length w.locals) x.at i v1) kind k.2 k.3 (steps w w1 v1 [] [] 0 1 s1 s)
           (array_part u ls v1 (length w.locals) k.0 x.at i o.names ki fits h);
     }
 array_of u ls words x e (Some c) i w n unknown ki begins h =
-    let w1 = after_length noted e w in
-    let w2 = after_columns noted x.at (Some c) w1 in
+    let w1 = after_length declarations.noting e w in
+    let w2 = after_columns declarations.noting x.at (Some c) w1 in
     let m = length_in (evaluated w e) in
     let fs = braces true i x.at ++ misfit m i in
-    let v0 = after_object noted words true m x w2 in
+    let v0 = after_object declarations.noting words true m x w2 in
     let f0 = none_found v0.found fs ((later_initializer i (failing noted fs v0)).found h) in
     absurd (no_columns x.at c w1 ((later_object words true m x w2).found f0.0))
 
 declarator_of : (u : UnitTree) (ls : List LocalTree) (words : Words) (x : Identifier) (e : Option DimensionsTree) (i : Option InitializerTree) (w : W) → NamesAre (around u ls w) (here w) → is_unknown words.typing ≡ false
-    → DimensionsHave e → InitializerHas i → (let d : DeclaratorTree = record { name = x; dimensions = e; initializer = i } in let v = after_declarator noted words d w in Begins u ls v → v.found ≡ None → Declaring u ls w v (declarator_tree_at noted words d w))
+    → DimensionsHave e → InitializerHas i → (let d : DeclaratorTree = record { name = x; dimensions = e; initializer = i } in let v = after_declarator declarations.noting words d w in Begins u ls v → v.found ≡ None → Declaring u ls w v (declarator_tree_at declarations.noting words d w))
 unfolding after_declarator declarator_tree_at
 declarator_of u ls words x None i w n unknown ke ki begins h =
     let d : DeclaratorTree = record { name = x; dimensions = None; initializer = i } in
     let fs = braces false i x.at ++ misfit None i in
-    let v0 = after_object noted words false None x w in
+    let v0 = after_object declarations.noting words false None x w in
     let v1 = failing noted fs v0 in
     let f1 : v1.found ≡ None = (later_initializer i v1).found h in
     let f0 = none_found v0.found fs f1 in
@@ -477,7 +479,7 @@ declarator_of u ls words x None i w n unknown ke ki begins h =
     let s : Steps w v1 [] 1 = record { sites = o.calls.sites; calls = o.calls.calls; listed = o.calls.listed; objects = o.calls.objects } in
     record {
       names = initial_names u ls i v1 o.names;
-      part = scalar_declared u ls w v1 (after_initializer noted i v1) (type_or_int words.typing) (scalar_tree (length w.locals) x.at i v1) o.kind s (scalar_part u ls v1 (length w.locals) x.at i o.names ki h);
+      part = scalar_declared u ls w v1 (after_initializer declarations.noting i v1) (type_or_int words.typing) (scalar_tree (length w.locals) x.at i v1) o.kind s (scalar_part u ls v1 (length w.locals) x.at i o.names ki h);
     }
 declarator_of u ls words x (Some e) i w n unknown ke ki begins h = array_of u ls words x e.length e.columns i w n unknown ki begins h
 
@@ -498,15 +500,15 @@ one_more u ls w v x (Some t) (Some ts) p q = (
 )
 
 pub declarators : (u : UnitTree) (ls : List LocalTree) (words : Words) → is_unknown words.typing ≡ false → (ds : List DeclaratorTree) → DeclaratorsHave ds → (w : W) → NamesAre (around u ls w) (here w)
-    → Begins u ls (after_declarators noted words ds w) → (after_declarators noted words ds w).found ≡ None → AllDeclaring u ls w (after_declarators noted words ds w) (declarator_trees_at noted words ds w)
+    → Begins u ls (after_declarators declarations.noting words ds w) → (after_declarators declarations.noting words ds w).found ≡ None → AllDeclaring u ls w (after_declarators declarations.noting words ds w) (declarator_trees_at declarations.noting words ds w)
 unfolding after_declarators declarator_trees_at
 declarators u ls words unknown [] k w n begins h = record { names = n; part = (tt, steps_none w w refl refl) }
 declarators u ls words unknown (d ∷ ds) k w n begins h =
-    let v = after_declarator noted words d w in
+    let v = after_declarator declarations.noting words d w in
     let l = later_declarators words ds v in
     let one = declarator_of u ls words d.name d.dimensions d.initializer w n unknown k.0.0 k.0.1 (begins_before u ls v _ l begins) (l.found h) in
     let more = declarators u ls words unknown ds k.1 v one.names begins h in
-    record { names = more.names; part = one_more u ls w v _ (declarator_tree_at noted words d w) (declarator_trees_at noted words ds v) one.part more.part }
+    record { names = more.names; part = one_more u ls w v _ (declarator_tree_at declarations.noting words d w) (declarator_trees_at declarations.noting words ds v) one.part more.part }
 
 pub moved : (u : UnitTree) (ls : List LocalTree) (w v x : W) (o : Option (List DeclaredTree)) → Steps w v [] 0 → v.locals ≡ w.locals → AllDeclaredPart u ls v x o → AllDeclaredPart u ls w x o
 moved u ls w v x None a b p = tt

@@ -22,14 +22,18 @@ use Rattle.pk_type_expression.specs.Rules.{count}
 use Rattle.pk_type_expression.proofs.TreeLemmas.{none_before, none_after, holds_not}
 use Rattle.pk_type_declaration.specs.declared.words.Words.{Words}
 use Rattle.pk_type_declaration.specs.Constants.{evaluated, length_in, after_length}
-use Rattle.pk_type_declaration.specs.Declarations.{type_or_int, text_of, redeclared, void_object, special_object, braces, misfit, length_at, after_columns, after_dimensions, length_or_1}
+use Rattle.pk_type_declaration.specs.Declarations.{type_or_int, text_of, length_at, after_columns, after_dimensions, length_or_1}
 use Rattle.pk_type_declaration.specs.Enumerations.{words_at, after_words}
-use Rattle.pk_type_declaration.specs.Walks.{here, failing, after_name}
+use Rattle.pk_type_declaration.specs.Walks.{here, after_name}
 use Rattle.pk_type_declaration.specs.Initializers.{given}
 use Rattle.pk_type_declaration.specs.Starts.{after_numbers, numbers_at, start_of}
-use Rattle.pk_type.specs.Files.{EntryTree, Filed, extern_object, file_object, after_object, after_objects, on, after_declaration}
+use Rattle.pk_type_declaration.specs.Rules as declarations
+use Rattle.pk_type_declaration.specs.Rules.{redeclared, void_object, special_object, braces, misfit, failing}
+use Rattle.pk_type.specs.Files.{EntryTree, Filed, file_object, after_object, after_objects, on, after_declaration}
 use Rattle.pk_type.specs.Files as files
 use Rattle.pk_type.specs.Units.{function_of}
+use Rattle.pk_type.specs.Rules as units
+use Rattle.pk_type.specs.Rules.{extern_object}
 use Rattle.pk_welltyped.specs.WellTyped.{Around, IsObject, kind_in_file, IsStart, IsBodyIf}
 use Rattle.pk_type_laws.specs.Accepted.Names.{ObjectIs, CalleeIs, DeclarationIs, NamesAre}
 use Rattle.pk_type_laws.proofs.Accepted.Walks.{W, none_found, LaterStatics, statics_same, statics_later, Later, later, later_failing}
@@ -173,14 +177,14 @@ known_declaring es = all_declaring (KnownIn es)
 object_made : (u : UnitTree) (words : Words) (b : Bool) (n : Option ℕ) (x : Identifier) (i : Option InitializerTree) (f : F) (w : W) (rows fs : List Failure) (name : List ℕ) → w.scoping ≡ f.walked.scoping → w.locals ≡ f.walked.locals
     → is_void words.typing ≡ false → is_unknown words.typing ≡ false → FileIs u f → RoomIn b n (count (given i))
     → (let t = type_or_int words.typing in let v = failing noted fs (after_name x (file_object words b f) (failing noted rows w)) in
-    let g : F = record { walked = after_numbers noted (given i) v; objects = f.objects ++ record { name = name; int_type = t; start = start_of (length_or_1 b n) (numbers_at noted t (given i) v) } ∷ []; functions = f.functions } in
+    let g : F = record { walked = after_numbers declarations.noting (given i) v; objects = f.objects ++ record { name = name; int_type = t; start = start_of (length_or_1 b n) (numbers_at declarations.noting t (given i) v) } ∷ []; functions = f.functions } in
     Stands u g → FileIs u g)
 object_made u words b n x i f w rows fs name sc lc void unknown h r s =
     let t = type_or_int words.typing in
     let v = failing noted fs (after_name x (file_object words b f) (failing noted rows w)) in
-    let zs = numbers_at noted t (given i) v in
+    let zs = numbers_at declarations.noting t (given i) v in
     let o : FileObjectTree = record { name = name; int_type = t; start = start_of (length_or_1 b n) zs } in
-    let q = after_numbers noted (given i) v in
+    let q = after_numbers declarations.noting (given i) v in
     let sq : q.scoping ≡ declaring w.scoping x (file_object words b f) = same_scope (given i) v in
     let is : u.objects ≡ f.objects ++ o ∷ s.rest = s.objects ∙ append_assoc f.objects (o ∷ []) s.rest in
     let kind : kind_in_file u (length f.objects) ≡ Some (record { int_type = t; length = length_or_1 b n }) = its_kind u f.objects s.rest o (length_or_1 b n) is (start_length b n zs) in
@@ -193,37 +197,37 @@ object_made u words b n x i f w rows fs name sc lc void unknown h r s =
       entries = h.entries;
     }
 
-later_head : (storage : Option Storage) (words : Words) (d : DeclaratorTree) (f : F) → Later f.walked (files.after_head noted storage words d f)
+later_head : (storage : Option Storage) (words : Words) (d : DeclaratorTree) (f : F) → Later f.walked (files.after_head units.noting storage words d f)
 later_head storage words d f =
-    let w = after_dimensions noted d.name.at d.dimensions f.walked in
+    let w = after_dimensions declarations.noting d.name.at d.dimensions f.walked in
     let rows = redeclared w.scoping d.name ++ extern_object storage d.name ++ void_object words.typing d.name.at ++ special_object w.scoping d.name in
     let fs = braces (is_some d.dimensions) d.initializer d.name.at ++ misfit (length_at f.walked d.dimensions) d.initializer in
     let v : W = after_name d.name (file_object words (is_some d.dimensions) f) (failing noted rows w) in
     let named : Later (failing noted rows w) v = record { found = λ h. h; more = []; locals = sym (append-nil w.locals); statics = statics_same w.statics } in
     later f.walked w _ (later_dimensions d.name.at d.dimensions f.walked) (later w (failing noted rows w) _ (later_failing rows w) (later (failing noted rows w) v _ named (later_failing fs v)))
 
-later_object : (storage : Option Storage) (words : Words) (d : DeclaratorTree) (f : F) → LaterFile f (after_object noted storage words d f)
+later_object : (storage : Option Storage) (words : Words) (d : DeclaratorTree) (f : F) → LaterFile f (after_object units.noting storage words d f)
 unfolding after_object
 later_object storage words d f =
-    let w = files.after_head noted storage words d f in
+    let w = files.after_head units.noting storage words d f in
     let t = type_or_int words.typing in
     record {
       found = λ h. (later_head storage words d f).found ((later_numbers (given d.initializer) w).found h);
-      more = record { name = text_of f.walked.scoping d.name; int_type = t; start = start_of (length_or_1 (is_some d.dimensions) (length_at f.walked d.dimensions)) (numbers_at noted t (given d.initializer) w) } ∷ [];
+      more = record { name = text_of f.walked.scoping d.name; int_type = t; start = start_of (length_or_1 (is_some d.dimensions) (length_at f.walked d.dimensions)) (numbers_at declarations.noting t (given d.initializer) w) } ∷ [];
       objects = refl;
       entries = kept_same f.functions;
-      statics = statics_later f.walked.statics w.statics (after_numbers noted (given d.initializer) w).statics (later_head storage words d f).statics (later_numbers (given d.initializer) w).statics;
+      statics = statics_later f.walked.statics w.statics (after_numbers declarations.noting (given d.initializer) w).statics (later_head storage words d f).statics (later_numbers (given d.initializer) w).statics;
     }
 
-later_objects : (storage : Option Storage) (words : Words) (ds : List DeclaratorTree) (f : F) → LaterFile f (after_objects noted storage words ds f)
+later_objects : (storage : Option Storage) (words : Words) (ds : List DeclaratorTree) (f : F) → LaterFile f (after_objects units.noting storage words ds f)
 unfolding after_objects
 later_objects storage words [] f = file_same f
-later_objects storage words (d ∷ ds) f = file_later f (after_object noted storage words d f) _ (later_object storage words d f) (later_objects storage words ds (after_object noted storage words d f))
+later_objects storage words (d ∷ ds) f = file_later f (after_object units.noting storage words d f) _ (later_object storage words d f) (later_objects storage words ds (after_object units.noting storage words d f))
 
-pub later_declaration : (storage : Option Storage) (d : DeclarationTree) (f : F) → LaterFile f (after_declaration noted storage d f)
+pub later_declaration : (storage : Option Storage) (d : DeclarationTree) (f : F) → LaterFile f (after_declaration units.noting storage d f)
 unfolding after_declaration
 later_declaration storage d f =
-    let g = on (after_words noted d.specifiers d.enumeration) f in
+    let g = on (after_words declarations.noting d.specifiers d.enumeration) f in
     let l = later_objects storage (words_at (here f.walked) d.specifiers d.enumeration) d.declarators g in
     let v = later_words d.specifiers d.enumeration f.walked in
     record { found = λ h. v.found (l.found h); more = l.more; objects = l.objects; entries = l.entries; statics = statics_later f.walked.statics g.walked.statics _ v.statics l.statics }
@@ -232,10 +236,10 @@ void_row : (a b c d : List Failure) → a ++ b ++ c ++ d ≡ [] → c ≡ []
 void_row a b c d h = none_after (a ++ b) c (none_before (a ++ b ++ c) d h)
 
 one_array : (u : UnitTree) (storage : Option Storage) (words : Words) (x : Identifier) (e : ExpressionTree) (c : Option ExpressionTree) (i : Option InitializerTree) (f : F) → is_unknown words.typing ≡ false → FileIs u f
-    → (let d : DeclaratorTree = record { name = x; dimensions = Some (record { length = e; columns = c }); initializer = i } in Stands u (after_object noted storage words d f) → (after_object noted storage words d f).walked.found ≡ None → FileIs u (after_object noted storage words d f))
+    → (let d : DeclaratorTree = record { name = x; dimensions = Some (record { length = e; columns = c }); initializer = i } in Stands u (after_object units.noting storage words d f) → (after_object units.noting storage words d f).walked.found ≡ None → FileIs u (after_object units.noting storage words d f))
 unfolding after_object
 one_array u storage words x e None i f unknown h s k =
-    let w = after_length noted e f.walked in
+    let w = after_length declarations.noting e f.walked in
     let n = length_in (evaluated f.walked e) in
     let rows = redeclared w.scoping x ++ extern_object storage x ++ void_object words.typing x.at ++ special_object w.scoping x in
     let fs = braces true i x.at ++ misfit n i in
@@ -247,8 +251,8 @@ one_array u storage words x e None i f unknown h s k =
     let fits : count (given i) ≤ m.0 = given_fit i m.0 x.at (none_before (braces true i x.at) (misfit n i) k1.1) (rw m.1 at (none_after (braces true i x.at) (misfit n i) k1.1)) in
     object_made u words true n x i f w rows fs (text_of f.walked.scoping x) refl refl void unknown h (subst (λ (o : Option ℕ). RoomIn true o (count (given i))) (sym m.1) (fits, m.3)) s
 one_array u storage words x e (Some c) i f unknown h s k =
-    let z = after_length noted e f.walked in
-    let w = after_columns noted x.at (Some c) z in
+    let z = after_length declarations.noting e f.walked in
+    let w = after_columns declarations.noting x.at (Some c) z in
     let rows = redeclared w.scoping x ++ extern_object storage x ++ void_object words.typing x.at ++ special_object w.scoping x in
     let fs = braces true i x.at ++ misfit (length_in (evaluated f.walked e)) i in
     let v = failing noted fs (after_name x (file_object words true f) (failing noted rows w)) in
@@ -256,7 +260,7 @@ one_array u storage words x e (Some c) i f unknown h s k =
     absurd (no_columns x.at c z (none_found w.found rows k1.0).0)
 
 one_object : (u : UnitTree) (storage : Option Storage) (words : Words) (x : Identifier) (e : Option DimensionsTree) (i : Option InitializerTree) (f : F) → is_unknown words.typing ≡ false → FileIs u f
-    → (let d : DeclaratorTree = record { name = x; dimensions = e; initializer = i } in Stands u (after_object noted storage words d f) → (after_object noted storage words d f).walked.found ≡ None → FileIs u (after_object noted storage words d f))
+    → (let d : DeclaratorTree = record { name = x; dimensions = e; initializer = i } in Stands u (after_object units.noting storage words d f) → (after_object units.noting storage words d f).walked.found ≡ None → FileIs u (after_object units.noting storage words d f))
 unfolding after_object
 one_object u storage words x None i f unknown h s k =
     let w = f.walked in
@@ -269,27 +273,27 @@ one_object u storage words x None i f unknown h s k =
     object_made u words false None x i f w rows fs (text_of w.scoping x) refl refl void unknown h tt s
 one_object u storage words x (Some e) i f unknown h s k = one_array u storage words x e.length e.columns i f unknown h s k
 
-all_objects : (u : UnitTree) (storage : Option Storage) (words : Words) (ds : List DeclaratorTree) (f : F) → is_unknown words.typing ≡ false → FileIs u f → Stands u (after_objects noted storage words ds f)
-    → (after_objects noted storage words ds f).walked.found ≡ None
-    → FileIs u (after_objects noted storage words ds f)
+all_objects : (u : UnitTree) (storage : Option Storage) (words : Words) (ds : List DeclaratorTree) (f : F) → is_unknown words.typing ≡ false → FileIs u f → Stands u (after_objects units.noting storage words ds f)
+    → (after_objects units.noting storage words ds f).walked.found ≡ None
+    → FileIs u (after_objects units.noting storage words ds f)
 unfolding after_objects
 all_objects u storage words [] f unknown h s k = h
 all_objects u storage words (d ∷ ds) f unknown h s k =
-    let g = after_object noted storage words d f in
+    let g = after_object units.noting storage words d f in
     let l = later_objects storage words ds g in
     all_objects u storage words ds g unknown (one_object u storage words d.name d.dimensions d.initializer f unknown h (stands_before u g _ l s) (l.found k)) s k
 
 -- the words of a declaration of the file
-pub words_in_file : (u : UnitTree) (words : OneOrMore Specifier) (e : Option EnumerationTree) (f : F) → FileIs u f → (after_words noted words e f.walked).found ≡ None → FileIs u (on (after_words noted words e) f)
+pub words_in_file : (u : UnitTree) (words : OneOrMore Specifier) (e : Option EnumerationTree) (f : F) → FileIs u f → (after_words declarations.noting words e f.walked).found ≡ None → FileIs u (on (after_words declarations.noting words e) f)
 words_in_file u words e f is h =
     let all = words_names (InFile u f) (holds_in_file u f) words e f.walked (λ x. (is.names x, is.known x)) h in
     record { names = λ x. (all x).0; known = λ x. (all x).1; locals = words_locals words e f.walked ∙ is.locals; objects = is.objects; entries = is.entries }
 
-pub declaration : (u : UnitTree) (storage : Option Storage) (d : DeclarationTree) (f : F) → FileIs u f → Stands u (after_declaration noted storage d f) → (after_declaration noted storage d f).walked.found ≡ None
-    → FileIs u (after_declaration noted storage d f)
+pub declaration : (u : UnitTree) (storage : Option Storage) (d : DeclarationTree) (f : F) → FileIs u f → Stands u (after_declaration units.noting storage d f) → (after_declaration units.noting storage d f).walked.found ≡ None
+    → FileIs u (after_declaration units.noting storage d f)
 unfolding after_declaration
 declaration u storage d f h s k =
-    let g = on (after_words noted d.specifiers d.enumeration) f in
+    let g = on (after_words declarations.noting d.specifiers d.enumeration) f in
     let words = words_at (here f.walked) d.specifiers d.enumeration in
     let kg = (later_objects storage words d.declarators g).found k in
     let unknown = words_known d.specifiers d.enumeration f.walked (λ x. has_types (in_file u) (here f.walked x) (h.names x)) kg in

@@ -21,13 +21,17 @@ use Rattle.pk_type_scope.specs.Failures.{fails_if, noted}
 use Rattle.pk_type_scope.specs.Scopes.{Scoping, first_of, found_up, key_of, is_same, names_in, declaring, opened}
 use Rattle.pk_type_scope.specs.Specifiers.{type_name_among, type_by, type_named, failures_by, word_failures}
 use Rattle.pk_type_declaration.specs.Declarations.{words_of, type_or_int, local_of, integer_in}
-use Rattle.pk_type_declaration.specs.Walks.{here, failing, with_local}
+use Rattle.pk_type_declaration.specs.Walks.{here, with_local}
+use Rattle.pk_type_declaration.specs.Rules.{failing}
 use Rattle.pk_type_jump.specs.Jumps.{jumps_of}
 use Rattle.pk_type_jump.specs.Labels.{labels_of}
 use Rattle.pk_type_statement.specs.Statements.{after_items}
 use Rattle.pk_type_statement.specs.Trees.{typed_items}
-use Rattle.pk_type.specs.Functions.{unnamed, after_parameter_name, after_parameter, after_parameters, each_at, about_jumps, before_body, after_body, body_of, body_at}
-use Rattle.pk_type.specs.Signatures.{is_integer, types_of}
+use Rattle.pk_type_statement.specs.Rules as statements
+use Rattle.pk_type.specs.Functions.{unnamed, after_parameter_name, after_parameter, after_parameters, before_body, after_body, body_of, body_at}
+use Rattle.pk_type.specs.Signatures.{types_of}
+use Rattle.pk_type.specs.Rules as units
+use Rattle.pk_type.specs.Rules.{each_at, about_jumps, is_integer}
 use Rattle.pk_welltyped.specs.Listed.{numbered}
 use Rattle.pk_welltyped.specs.WellTyped.{AreParameters, AreItems, IsBodyIf, Marks}
 use Rattle.pk_type_laws.specs.Accepted.Constants.{ItemsHave}
@@ -43,21 +47,21 @@ use Rattle.pk_type_laws.proofs.Accepted.Jumps.{labels_below, no_case, no_default
 later_local : (l : LocalTree) (w : W) → Later w (with_local l w)
 later_local l w = record { found = λ h. h; more = l ∷ []; locals = refl; statics = statics_same w.statics }
 
-later_parameter : (p : ParameterTree) (w : W) → Later w (after_parameter noted p w)
+later_parameter : (p : ParameterTree) (w : W) → Later w (after_parameter units.noting p w)
 later_parameter p w =
     let v = failing noted (word_failures (here w) p.specifiers) w in
     later w v _ (later_failing (word_failures (here w) p.specifiers) w) (named p.name v)
   where
-    named : (x : Option Identifier) (v : W) → Later v (after_parameter_name noted p x v)
+    named : (x : Option Identifier) (v : W) → Later v (after_parameter_name units.noting p x v)
     named None v =
         let fs = fails_if (is_void (type_named (here v) p.specifiers)) rule.Void p.specifiers.first.at in
         later v (failing noted fs v) _ (later_failing fs v) (later_local (record { name = None; int_type = type_or_int (type_named (here v) p.specifiers); length = None }) (failing noted fs v))
     named (Some x) v = later_object (words_of (here v) p.specifiers) false None x v
 
-pub later_parameters : (ps : List ParameterTree) (w : W) → Later w (after_parameters noted ps w)
+pub later_parameters : (ps : List ParameterTree) (w : W) → Later w (after_parameters units.noting ps w)
 unfolding after_parameters
 later_parameters [] w = later_same w
-later_parameters (p ∷ ps) w = later w (after_parameter noted p w) _ (later_parameter p w) (later_parameters ps (after_parameter noted p w))
+later_parameters (p ∷ ps) w = later w (after_parameter units.noting p w) _ (later_parameter p w) (later_parameters ps (after_parameter units.noting p w))
 
 abbrev pub Integers : List Typing → Type 0
 Integers [] = Unit {0}
@@ -104,18 +108,18 @@ pub types_opened : (c : Names) (s : Scoping) → TypesFrom c (names_in s) → Ty
 unfolding names_in
 types_opened c s k y t is = k y t (sym (found_last s.outer s.inner (key_of s.text y) None) ∙ is)
 
-types_behind : (c : Names) (p : ParameterTree) (w : W) → TypesFrom c (here w) → TypesFrom c (here (after_parameter noted p w))
+types_behind : (c : Names) (p : ParameterTree) (w : W) → TypesFrom c (here w) → TypesFrom c (here (after_parameter units.noting p w))
 types_behind c p w k = named p.name
   where
-    named : (x : Option Identifier) → TypesFrom c (here (after_parameter_name noted p x (failing noted (word_failures (here w) p.specifiers) w)))
+    named : (x : Option Identifier) → TypesFrom c (here (after_parameter_name units.noting p x (failing noted (word_failures (here w) p.specifiers) w)))
     named None = k
     named (Some x) = types_declaring c w.scoping x _ refl k
 
 -- the row at the words of a parameter
-parameter_words : (p : ParameterTree) (w : W) → (after_parameter noted p w).found ≡ None → word_failures (here w) p.specifiers ≡ []
+parameter_words : (p : ParameterTree) (w : W) → (after_parameter units.noting p w).found ≡ None → word_failures (here w) p.specifiers ≡ []
 parameter_words p w h = named p.name h
   where
-    named : (x : Option Identifier) → (after_parameter_name noted p x (failing noted (word_failures (here w) p.specifiers) w)).found ≡ None → word_failures (here w) p.specifiers ≡ []
+    named : (x : Option Identifier) → (after_parameter_name units.noting p x (failing noted (word_failures (here w) p.specifiers) w)).found ≡ None → word_failures (here w) p.specifiers ≡ []
     named None h =
         let v = failing noted (word_failures (here w) p.specifiers) w in
         (none_found w.found (word_failures (here w) p.specifiers) (none_found v.found (fails_if (is_void (type_named (here w) p.specifiers)) rule.Void p.specifiers.first.at) h).0).1
@@ -123,13 +127,13 @@ parameter_words p w h = named p.name h
         let v = failing noted (word_failures (here w) p.specifiers) w in
         (none_found w.found (word_failures (here w) p.specifiers) ((later_object (words_of (here w) p.specifiers) false None x v).found h)).1
 
-parameter_integer : (p : ParameterTree) (w : W) → TypesAre (here w) → (after_parameter noted p w).found ≡ None → is_integer (type_named (here w) p.specifiers) ≡ true
+parameter_integer : (p : ParameterTree) (w : W) → TypesAre (here w) → (after_parameter units.noting p w).found ≡ None → is_integer (type_named (here w) p.specifiers) ≡ true
 parameter_integer p w k h = named p.name h
   where
     known : is_unknown (type_named (here w) p.specifiers) ≡ false
     known = known_type (here w) k p.specifiers (parameter_words p w h)
 
-    named : (x : Option Identifier) → (after_parameter_name noted p x (failing noted (word_failures (here w) p.specifiers) w)).found ≡ None → is_integer (type_named (here w) p.specifiers) ≡ true
+    named : (x : Option Identifier) → (after_parameter_name units.noting p x (failing noted (word_failures (here w) p.specifiers) w)).found ≡ None → is_integer (type_named (here w) p.specifiers) ≡ true
     named None h =
         let t = type_named (here w) p.specifiers in
         let v = failing noted (word_failures (here w) p.specifiers) w in
@@ -138,11 +142,11 @@ parameter_integer p w k h = named p.name h
         let v = failing noted (word_failures (here w) p.specifiers) w in
         integer (type_named (here w) p.specifiers) (not_void (words_of (here w) p.specifiers) false None x v h) known
 
-pub integers_of : (c : Names) (ps : List ParameterTree) (w : W) → TypesAre c → TypesFrom c (here w) → (after_parameters noted ps w).found ≡ None → Integers (types_of c ps)
+pub integers_of : (c : Names) (ps : List ParameterTree) (w : W) → TypesAre c → TypesFrom c (here w) → (after_parameters units.noting ps w).found ≡ None → Integers (types_of c ps)
 unfolding after_parameters
 integers_of c [] w a k h = tt
 integers_of c (p ∷ ps) w a k h =
-    let v = after_parameter noted p w in
+    let v = after_parameter units.noting p w in
     let f : v.found ≡ None = (later_parameters ps v).found h in
     (ap is_integer (sym (same_type c (here w) k p.specifiers (parameter_words p w f))) ∙ parameter_integer p w (types_from c (here w) k a) f, integers_of c ps v a (types_behind c p w k) h)
 
@@ -154,18 +158,18 @@ record One (u : UnitTree) (ls : List LocalTree) (w v : W) (t : Typing) : Type 0 
   type_is : local.int_type ≡ type_or_int t
   length_is : local.length ≡ None
 
-parameter : (u : UnitTree) (ls : List LocalTree) (p : ParameterTree) (w : W) → NamesAre (around u ls w) (here w) → Begins u ls (after_parameter noted p w) → (after_parameter noted p w).found ≡ None
-    → One u ls w (after_parameter noted p w) (type_named (here w) p.specifiers)
+parameter : (u : UnitTree) (ls : List LocalTree) (p : ParameterTree) (w : W) → NamesAre (around u ls w) (here w) → Begins u ls (after_parameter units.noting p w) → (after_parameter units.noting p w).found ≡ None
+    → One u ls w (after_parameter units.noting p w) (type_named (here w) p.specifiers)
 parameter u ls p w n b h = named p.name b h
   where
-    named : (x : Option Identifier) → Begins u ls (after_parameter_name noted p x (failing noted (word_failures (here w) p.specifiers) w)) → (after_parameter_name noted p x (failing noted (word_failures (here w) p.specifiers) w)).found ≡ None
-        → One u ls w (after_parameter_name noted p x (failing noted (word_failures (here w) p.specifiers) w)) (type_named (here w) p.specifiers)
+    named : (x : Option Identifier) → Begins u ls (after_parameter_name units.noting p x (failing noted (word_failures (here w) p.specifiers) w)) → (after_parameter_name units.noting p x (failing noted (word_failures (here w) p.specifiers) w)).found ≡ None
+        → One u ls w (after_parameter_name units.noting p x (failing noted (word_failures (here w) p.specifiers) w)) (type_named (here w) p.specifiers)
     named None b h =
         let t = type_named (here w) p.specifiers in
         let v = failing noted (word_failures (here w) p.specifiers) w in
         let fs = fails_if (is_void t) rule.Void p.specifiers.first.at in
         let f = none_found v.found fs h in
-        let x = unnamed noted p v in
+        let x = unnamed units.noting p v in
         let l = later w (failing noted fs v) x (later w v _ (later_failing (word_failures (here w) p.specifiers) w) (later_failing fs v)) (later_local (record { name = None; int_type = type_or_int t; length = None }) (failing noted fs v)) in
         record {
           names = names_later u ls w x (here w) l n;
@@ -198,12 +202,12 @@ pub record Parameters (u : UnitTree) (ls : List LocalTree) (w v : W) (ts : List 
   pub are : AreParameters (map type_or_int ts) more
   pub many : length more ≡ length (map type_or_int ts)
 
-pub parameters : (u : UnitTree) (ls : List LocalTree) (c : Names) (ps : List ParameterTree) (w : W) → NamesAre (around u ls w) (here w) → TypesFrom c (here w) → Begins u ls (after_parameters noted ps w)
-    → (after_parameters noted ps w).found ≡ None → Parameters u ls w (after_parameters noted ps w) (types_of c ps)
+pub parameters : (u : UnitTree) (ls : List LocalTree) (c : Names) (ps : List ParameterTree) (w : W) → NamesAre (around u ls w) (here w) → TypesFrom c (here w) → Begins u ls (after_parameters units.noting ps w)
+    → (after_parameters units.noting ps w).found ≡ None → Parameters u ls w (after_parameters units.noting ps w) (types_of c ps)
 unfolding after_parameters
 parameters u ls c [] w n k b h = record { names = n; calls = refl; more = []; locals = sym (append-nil w.locals); are = tt; many = refl }
 parameters u ls c (p ∷ ps) w n k b h =
-    let v = after_parameter noted p w in
+    let v = after_parameter units.noting p w in
     let l = later_parameters ps v in
     let one = parameter u ls p w n (begins_before u ls v _ l b) (l.found h) in
     let all = parameters u ls c ps v one.names (types_behind c p w k) b h in
@@ -228,12 +232,12 @@ none_at : (r : Rule) (xs : List Pos) → each_at r xs ≡ [] → xs ≡ []
 none_at r [] h = refl
 none_at r (x ∷ xs) h = absurd (cc)
 
-pub later_body : (r : Typing) (b : BlockTree) (w : W) → Later w (after_body noted r b w)
+pub later_body : (r : Typing) (b : BlockTree) (w : W) → Later w (after_body units.noting r b w)
 later_body r b w =
     let labels = labels_of w.scoping.text b.items in
     let fs = about_jumps labels (jumps_of w.scoping.text labels.labels b.items) in
     let p = before_body w in
-    later w (after_items noted r p b.items).walked _ (later_items r p b.items).walked (later_failing fs (after_items noted r p b.items).walked)
+    later w (after_items statements.noting r p b.items).walked _ (later_items r p b.items).walked (later_failing fs (after_items statements.noting r p b.items).walked)
 
 made : (u : UnitTree) (g : tree.FunctionTree) (m : Marks) (visible : ℕ) (b : BlockTree) (w v x : W) (is : Option tree.ItemTrees) → m ≡ record { labels = m.labels; returns = g.returns; cases = 0; has_default = false } → x.calls ≡ v.calls → x.locals ≡ v.locals
     → visible ≤ length u.objects → w.calls ≡ [] → AreParameters g.parameters x.locals → length w.locals ≡ length g.parameters → ItemsPart u x.locals m w v is
@@ -249,16 +253,16 @@ made u g m visible b w v x (Some is) im c l s k p n h = record {
       h.1.listed ∙ (at ∙ sym (ap (numbered 0) is_them));
 }
 
-pub body : (u : UnitTree) (g : tree.FunctionTree) (r : Typing) (visible : ℕ) (b : BlockTree) (w : W) → StaticsStand u (after_body noted r b w).statics → visible ≤ length u.objects → w.calls ≡ [] → AreParameters g.parameters (after_body noted r b w).locals
+pub body : (u : UnitTree) (g : tree.FunctionTree) (r : Typing) (visible : ℕ) (b : BlockTree) (w : W) → StaticsStand u (after_body units.noting r b w).statics → visible ≤ length u.objects → w.calls ≡ [] → AreParameters g.parameters (after_body units.noting r b w).locals
     → length w.locals ≡ length g.parameters → g.returns ≡ integer_in r → is_unknown r ≡ false
-    → NamesAre (around u (after_body noted r b w).locals w) (here w) → ItemsHave b.items → (after_body noted r b w).found ≡ None → IsBodyIf u g (body_at noted r visible b w)
+    → NamesAre (around u (after_body units.noting r b w).locals w) (here w) → ItemsHave b.items → (after_body units.noting r b w).found ≡ None → IsBodyIf u g (body_at units.noting r visible b w)
 body u g r visible b w stand s k p n ret known names has h =
     let labels = labels_of w.scoping.text b.items in
     let jumps = jumps_of w.scoping.text labels.labels b.items in
     let fs = about_jumps labels jumps in
     let start = before_body w in
-    let q = after_items noted r start b.items in
-    let x = after_body noted r b w in
+    let q = after_items statements.noting r start b.items in
+    let x = after_body units.noting r b w in
     let f = none_found q.walked.found fs h in
     let rows : each_at rule.Label labels.repeated ++ each_at rule.Label jumps.unknown ++ each_at rule.Jump jumps.misplaced ≡ [] = f.1 in
     let placed : jumps.misplaced ≡ [] = none_at rule.Jump jumps.misplaced (none_after (each_at rule.Label labels.repeated ++ each_at rule.Label jumps.unknown) (each_at rule.Jump jumps.misplaced) rows) in
@@ -269,5 +273,5 @@ body u g r visible b w stand s k p n ret known names has h =
       cases = omega (ap length (no_case w.scoping.text labels.labels r start b.items placed), arith);
       default = λ t. absurd (false≢true (sym (no_default w.scoping.text labels.labels r start b.items placed) ∙ t));
     } in
-    made u g m visible b w q.walked x (typed_items noted r labels.labels start b.items) refl refl refl s k p n
+    made u g m visible b w q.walked x (typed_items statements.noting r labels.labels start b.items) refl refl refl s k p n
     (items_part u x.locals r labels.labels m (labels_below w.scoping.text b.items, ret, known) start b.items names has e)

@@ -8,10 +8,10 @@ use Rattle.pk_ast.specs.declared.expressions.Identifier.{Identifier}
 use Rattle.pk_ast.specs.Trees as ast
 use Rattle.pk_ast.specs.Trees.{declaration, expression, StatementTree, ItemTrees, no_items, declaration_then, statement_then}
 use Rattle.pk_type_scope.specs.declared.declarations.Typing.{Typing}
-use Rattle.pk_type_scope.specs.Failures.{noted}
 use Rattle.pk_type_scope.specs.Scopes.{spelled}
 use Rattle.pk_type_declaration.specs.Statics.{after_block_declaration}
 use Rattle.pk_type_declaration.specs.Walks.{after_value}
+use Rattle.pk_type_declaration.specs.Rules as declarations
 use Rattle.pk_type_jump.specs.declared.labels.Label.{Label}
 use Rattle.pk_type_jump.specs.declared.labels.Within.{Within}
 use Rattle.pk_type_jump.specs.Labels.{Listed, nothing_listed, with_label, with_declaration, inside, listed, listed_items, outermost, labels_of}
@@ -19,6 +19,7 @@ use Rattle.pk_type_jump.specs.Jumps as jump
 use Rattle.pk_type_jump.specs.Jumps.{Around, Jumped, at_if, misplaced_if, gone, holds, is_out_of_place, is_unbroken, with_default_flag, looped, switched, within_next, jumped, jumped_items}
 use Rattle.pk_type_statement.specs.Statements as statements
 use Rattle.pk_type_statement.specs.Statements.{on, after_head, after, after_items}
+use Rattle.pk_type_statement.specs.Rules as statement_rules
 use Rattle.pk_type_laws.proofs.Accepted.Statements.{P, LabelBelow, Below}
 
 pub none_before : {A : Type 0} (xs ys : List A) → xs ++ ys ≡ [] → xs ≡ []
@@ -138,44 +139,44 @@ not_case a at xs n h = out (is_out_of_place a) (ap (λ (o : Option ℕ). not (ju
 mutual
   unfolding jumped jumped_items after after_items
 
-  outside : (text : List ℕ) (labels : Labels) (a : Around) (j : Jumped) (r : Typing) (p : P) (s : StatementTree) → a.switch ≡ None → (jumped text labels a j s).misplaced ≡ [] → Same p (after noted r p s)
+  outside : (text : List ℕ) (labels : Labels) (a : Around) (j : Jumped) (r : Typing) (p : P) (s : StatementTree) → a.switch ≡ None → (jumped text labels a j s).misplaced ≡ [] → Same p (after statement_rules.noting r p s)
   outside text labels a j r p (ast.block opened items closed) n h = let q = statements.inside p in let k = items_outside text labels a j r q items n h in record { cases = k.cases; default = k.default }
   outside text labels a j r p (ast.empty at) n h = record { cases = refl; default = refl }
   outside text labels a j r p (ast.expression_statement e) n h = record { cases = refl; default = refl }
   outside text labels a j r p (ast.label x s) n h = outside text labels a j r p s n h
   outside text labels a j r p (ast.case at e s) n h = absurd (not_case a at j.misplaced n (before text labels a (misplaced_if (is_out_of_place a) at j) s h))
   outside text labels a j r p (ast.default at s) n h = absurd (not_out a j.has_default at j.misplaced n (before text labels a (jump.with_default a at j) s h))
-  outside text labels a j r p (ast.if_then at e s) n h = let k = outside text labels a j r (on (after_value noted e) p) s n h in record { cases = k.cases; default = k.default }
+  outside text labels a j r p (ast.if_then at e s) n h = let k = outside text labels a j r (on (after_value declarations.noting e) p) s n h in record { cases = k.cases; default = k.default }
   outside text labels a j r p (ast.if_else at e s t) n h =
-      let q = on (after_value noted e) p in
+      let q = on (after_value declarations.noting e) p in
       let o = jumped text labels a j s in
       let k = outside text labels a j r q s n (before text labels a o t h) in
-      let l = outside text labels a o r (after noted r q s) t n h in
+      let l = outside text labels a o r (after statement_rules.noting r q s) t n h in
       record { cases = l.cases ∙ k.cases; default = l.default ∙ k.default }
   outside text labels a j r p (ast.switch at e s) n h = record { cases = refl; default = refl }
-  outside text labels a j r p (ast.while at e s) n h = let k = outside text labels (looped a) j r (on (after_value noted e) p) s n h in record { cases = k.cases; default = k.default }
+  outside text labels a j r p (ast.while at e s) n h = let k = outside text labels (looped a) j r (on (after_value declarations.noting e) p) s n h in record { cases = k.cases; default = k.default }
   outside text labels a j r p (ast.do_while at s e) n h = let k = outside text labels (looped a) j r p s n h in record { cases = k.cases; default = k.default }
   outside text labels a j r p (ast.for_loop at (declaration d) test step s) n h =
-      let k = outside text labels (looped (within_next j a)) (jump.with_declaration j) r (on (after_head noted (declaration d) test step) (statements.inside p)) s n h in record { cases = k.cases; default = k.default }
+      let k = outside text labels (looped (within_next j a)) (jump.with_declaration j) r (on (after_head declarations.noting (declaration d) test step) (statements.inside p)) s n h in record { cases = k.cases; default = k.default }
   outside text labels a j r p (ast.for_loop at (expression e) test step s) n h =
-      let k = outside text labels (looped a) j r (on (after_head noted (expression e) test step) (statements.inside p)) s n h in record { cases = k.cases; default = k.default }
+      let k = outside text labels (looped a) j r (on (after_head declarations.noting (expression e) test step) (statements.inside p)) s n h in record { cases = k.cases; default = k.default }
   outside text labels a j r p (ast.goto at x) n h = record { cases = refl; default = refl }
   outside text labels a j r p (ast.continue at) n h = record { cases = refl; default = refl }
   outside text labels a j r p (ast.break at) n h = record { cases = refl; default = refl }
   outside text labels a j r p (ast.return at e) n h = record { cases = refl; default = refl }
 
-  items_outside : (text : List ℕ) (labels : Labels) (a : Around) (j : Jumped) (r : Typing) (p : P) (is : ItemTrees) → a.switch ≡ None → (jumped_items text labels a j is).misplaced ≡ [] → Same p (after_items noted r p is)
+  items_outside : (text : List ℕ) (labels : Labels) (a : Around) (j : Jumped) (r : Typing) (p : P) (is : ItemTrees) → a.switch ≡ None → (jumped_items text labels a j is).misplaced ≡ [] → Same p (after_items statement_rules.noting r p is)
   items_outside text labels a j r p no_items n h = record { cases = refl; default = refl }
   items_outside text labels a j r p (declaration_then x d is) n h =
-      let k = items_outside text labels (within_next j a) (jump.with_declaration j) r (on (after_block_declaration noted x d) p) is n h in record { cases = k.cases; default = k.default }
+      let k = items_outside text labels (within_next j a) (jump.with_declaration j) r (on (after_block_declaration declarations.noting x d) p) is n h in record { cases = k.cases; default = k.default }
   items_outside text labels a j r p (statement_then s is) n h =
       let o = jumped text labels a j s in
       let k = outside text labels a j r p s n (items_before text labels a o is h) in
-      let l = items_outside text labels a o r (after noted r p s) is n h in
+      let l = items_outside text labels a o r (after statement_rules.noting r p s) is n h in
       record { cases = l.cases ∙ k.cases; default = l.default ∙ k.default }
 
-pub no_case : (text : List ℕ) (labels : Labels) (r : Typing) (p : P) (is : ItemTrees) → (jump.jumps_of text labels is).misplaced ≡ [] → (after_items noted r p is).cases ≡ p.cases
+pub no_case : (text : List ℕ) (labels : Labels) (r : Typing) (p : P) (is : ItemTrees) → (jump.jumps_of text labels is).misplaced ≡ [] → (after_items statement_rules.noting r p is).cases ≡ p.cases
 no_case text labels r p is h = (items_outside text labels jump.around_body jump.nothing_jumped r p is refl h).cases
 
-pub no_default : (text : List ℕ) (labels : Labels) (r : Typing) (p : P) (is : ItemTrees) → (jump.jumps_of text labels is).misplaced ≡ [] → (after_items noted r p is).has_default ≡ p.has_default
+pub no_default : (text : List ℕ) (labels : Labels) (r : Typing) (p : P) (is : ItemTrees) → (jump.jumps_of text labels is).misplaced ≡ [] → (after_items statement_rules.noting r p is).has_default ≡ p.has_default
 no_default text labels r p is h = (items_outside text labels jump.around_body jump.nothing_jumped r p is refl h).default

@@ -14,31 +14,32 @@ use Rattle.pk_typed.specs.Trees.{FileObjectTree, UnitTree}
 use Rattle.pk_type_scope.specs.declared.declarations.Typing.{Typing}
 use Rattle.pk_type_scope.specs.declared.declarations.Typing.TheVariants.{Void, Integer, Unknown}
 use Rattle.pk_type_scope.specs.Declarations.{is_void, is_unknown}
-use Rattle.pk_type_scope.specs.Failures.{noted}
 use Rattle.pk_type_expression.specs.Rules.{count}
 use Rattle.pk_type_declaration.specs.Constants.{evaluated, number_in, after_constant}
-use Rattle.pk_type_declaration.specs.Declarations.{integer_in, type_or_int, braces, misfit, length_or_1}
+use Rattle.pk_type_declaration.specs.Declarations.{integer_in, type_or_int, length_or_1}
 use Rattle.pk_type_declaration.specs.Initializers.{given}
 use Rattle.pk_type_declaration.specs.Starts.{number_or_0, number_at, after_numbers, numbers_at, first_or_0, start_of}
+use Rattle.pk_type_declaration.specs.Rules as declarations
+use Rattle.pk_type_declaration.specs.Rules.{braces, misfit}
 use Rattle.pk_welltyped.specs.WellTyped.{Around, kind_in_file, IsStart}
 use Rattle.pk_type_laws.specs.Accepted.Names.{ObjectIs}
 use Rattle.pk_type_laws.proofs.Accepted.Walks.{W, Later, later_same, later, Steps, steps_none, steps}
 use Rattle.pk_type_laws.proofs.Accepted.Declarations.{nth, later_constant, constant_steps, room}
 
-pub later_numbers : (es : ExpressionTrees) (w : W) → Later w (after_numbers noted es w)
+pub later_numbers : (es : ExpressionTrees) (w : W) → Later w (after_numbers declarations.noting es w)
 unfolding after_numbers
 later_numbers no_expressions w = later_same w
-later_numbers (expression_then e es) w = later w (after_constant noted e w) _ (later_constant e w) (later_numbers es (after_constant noted e w))
+later_numbers (expression_then e es) w = later w (after_constant declarations.noting e w) _ (later_constant e w) (later_numbers es (after_constant declarations.noting e w))
 
-pub same_scope : (es : ExpressionTrees) (w : W) → (after_numbers noted es w).scoping ≡ w.scoping
+pub same_scope : (es : ExpressionTrees) (w : W) → (after_numbers declarations.noting es w).scoping ≡ w.scoping
 unfolding after_numbers
 same_scope no_expressions w = refl
-same_scope (expression_then e es) w = same_scope es (after_constant noted e w)
+same_scope (expression_then e es) w = same_scope es (after_constant declarations.noting e w)
 
-pub same_locals : (es : ExpressionTrees) (w : W) → (after_numbers noted es w).locals ≡ w.locals
+pub same_locals : (es : ExpressionTrees) (w : W) → (after_numbers declarations.noting es w).locals ≡ w.locals
 unfolding after_numbers
 same_locals no_expressions w = refl
-same_locals (expression_then e es) w = same_locals es (after_constant noted e w)
+same_locals (expression_then e es) w = same_locals es (after_constant declarations.noting e w)
 
 zero_is : (t : IntType) → InType t (pos 0)
 zero_is t = record { from = (zero_in t).0; to = (zero_in t).1 }
@@ -51,23 +52,23 @@ all_first : (t : IntType) (z : ℤ) (zs : List ℤ) → InType t z → All (InTy
 all_first t z zs h k zero d l = h
 all_first t z zs h k (suc i) d l = k i d (omega (l, arith))
 
-pub numbers_in_type : (t : IntType) (es : ExpressionTrees) (w : W) → All (InType t) (numbers_at noted t es w)
+pub numbers_in_type : (t : IntType) (es : ExpressionTrees) (w : W) → All (InType t) (numbers_at declarations.noting t es w)
 unfolding numbers_at
 numbers_in_type t no_expressions w = λ k d l. absurd (omega (l, arith))
-numbers_in_type t (expression_then e es) w = all_first t (number_at t w e) (numbers_at noted t es (after_constant noted e w)) (number_in_type t (number_in (evaluated w e))) (numbers_in_type t es (after_constant noted e w))
+numbers_in_type t (expression_then e es) w = all_first t (number_at t w e) (numbers_at declarations.noting t es (after_constant declarations.noting e w)) (number_in_type t (number_in (evaluated w e))) (numbers_in_type t es (after_constant declarations.noting e w))
 
 -- constants call nothing
-pub numbers_steps : (es : ExpressionTrees) (w : W) → (after_numbers noted es w).found ≡ None → Steps w (after_numbers noted es w) [] 0
+pub numbers_steps : (es : ExpressionTrees) (w : W) → (after_numbers declarations.noting es w).found ≡ None → Steps w (after_numbers declarations.noting es w) [] 0
 unfolding after_numbers
 numbers_steps no_expressions w h = steps_none w w refl refl
 numbers_steps (expression_then e es) w h =
-    let v = after_constant noted e w in
-    steps w v (after_numbers noted es v) [] [] 0 0 (constant_steps e w ((later_numbers es v).found h)) (numbers_steps es v h)
+    let v = after_constant declarations.noting e w in
+    steps w v (after_numbers declarations.noting es v) [] [] 0 0 (constant_steps e w ((later_numbers es v).found h)) (numbers_steps es v h)
 
-pub numbers_many : (t : IntType) (es : ExpressionTrees) (w : W) → length (numbers_at noted t es w) ≡ count es
+pub numbers_many : (t : IntType) (es : ExpressionTrees) (w : W) → length (numbers_at declarations.noting t es w) ≡ count es
 unfolding numbers_at
 numbers_many t no_expressions w = refl
-numbers_many t (expression_then e es) w = let h = numbers_many t es (after_constant noted e w) in omega (h, arith)
+numbers_many t (expression_then e es) w = let h = numbers_many t es (after_constant declarations.noting e w) in omega (h, arith)
 
 first_in : (t : IntType) (zs : List ℤ) → All (InType t) zs → InType t (first_or_0 zs)
 first_in t [] h = zero_is t

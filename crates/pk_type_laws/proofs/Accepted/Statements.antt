@@ -27,11 +27,15 @@ use Rattle.pk_type_expression.specs.Types.{type_of}
 use Rattle.pk_type_declaration.specs.Constants.{evaluated, number_in}
 use Rattle.pk_type_declaration.specs.Declarations.{integer_in}
 use Rattle.pk_type_declaration.specs.Statics.{after_declaration, declaration_trees_at, after_block_declaration, block_declaration_at}
-use Rattle.pk_type_declaration.specs.Walks.{here, failing, after_value, after_effect, value_at, effect_at}
+use Rattle.pk_type_declaration.specs.Walks.{here, after_value, after_effect, value_at, effect_at}
+use Rattle.pk_type_declaration.specs.Rules as declaration_rules
+use Rattle.pk_type_declaration.specs.Rules.{failing}
 use Rattle.pk_type_jump.specs.declared.labels.Label.{Label}
 use Rattle.pk_type_statement.specs.declared.statements.Case.{Case}
-use Rattle.pk_type_statement.specs.Statements.{Passed, on, inside, outside, after_optional_value, after_optional_effect, returns_otherwise, after_return, with_case, with_default, repeated_cases, in_switch, after_switch, after_start, after_head, after, after_items}
+use Rattle.pk_type_statement.specs.Statements.{Passed, on, inside, outside, after_optional_value, after_optional_effect, after_return, with_case, with_default, in_switch, after_switch, after_start, after_head, after, after_items}
 use Rattle.pk_type_statement.specs.Trees.{Labels, numbered, of_three, case_numbers, ended_as, ended, switch_of, optional_value_at, optional_effect_at, start_at, a_head, for_tree, declared_all, typed, typed_items}
+use Rattle.pk_type_statement.specs.Rules as statement_rules
+use Rattle.pk_type_statement.specs.Rules.{returns_otherwise, repeated_cases}
 use Rattle.pk_welltyped.specs.Listed as listed
 use Rattle.pk_welltyped.specs.Listed.{Numbered, calls_in, calls_if, calls_in_effect_if, calls_in_declared, calls_in_all_declared, calls_at_start, calls_in_statement, calls_in_items, objects_in_declared, objects_in_all_declared, objects_at_start, objects_in, objects_in_items}
 use Rattle.pk_welltyped.specs.WellTyped as good
@@ -63,22 +67,22 @@ place_later p q r a b = record { walked = later p.walked q.walked r.walked a.wal
 later_on : (f : W → W) (p : P) → Later p.walked (f p.walked) → LaterPlace p (on f p)
 later_on f p l = record { walked = l; cases = omega arith; default = λ h. h }
 
-later_optional_value : (e : Option ExpressionTree) (w : W) → Later w (after_optional_value noted e w)
+later_optional_value : (e : Option ExpressionTree) (w : W) → Later w (after_optional_value declaration_rules.noting e w)
 later_optional_value None w = later_same w
 later_optional_value (Some e) w = later_value e w
 
-later_optional_effect : (e : Option ExpressionTree) (w : W) → Later w (after_optional_effect noted e w)
+later_optional_effect : (e : Option ExpressionTree) (w : W) → Later w (after_optional_effect declaration_rules.noting e w)
 later_optional_effect None w = later_same w
 later_optional_effect (Some e) w = later_effect e w
 
-later_start : (start : ForStartTree) (w : W) → Later w (after_start noted start w)
+later_start : (start : ForStartTree) (w : W) → Later w (after_start declaration_rules.noting start w)
 later_start (declaration d) w = later_declaration d w
 later_start (expression e) w = later_optional_effect e w
 
-later_head : (start : ForStartTree) (test step : Option ExpressionTree) (w : W) → Later w (after_head noted start test step w)
+later_head : (start : ForStartTree) (test step : Option ExpressionTree) (w : W) → Later w (after_head declaration_rules.noting start test step w)
 later_head start test step w =
-    let v = after_start noted start w in
-    let x = after_optional_value noted test v in
+    let v = after_start declaration_rules.noting start w in
+    let x = after_optional_value declaration_rules.noting test v in
     later w v _ (later_start start w) (later v x _ (later_optional_value test v) (later_optional_effect step x))
 
 longer : (cs : List Case) (c : Case) → length cs ≤ length (cs ++ c ∷ [])
@@ -87,14 +91,14 @@ longer cs c = omega (length-append cs (c ∷ []), arith)
 one_longer : (cs : List Case) (c : Case) (n : ℕ) → length (cs ++ c ∷ []) ≤ n → length cs < n
 one_longer cs c n h = omega (length-append cs (c ∷ []), h, arith)
 
-later_case : (at : Pos) (e : ExpressionTree) (p : P) → LaterPlace p (with_case noted at e p)
+later_case : (at : Pos) (e : ExpressionTree) (p : P) → LaterPlace p (with_case declaration_rules.noting at e p)
 later_case at e p = record { walked = later_constant e p.walked; cases = longer p.cases (record { at = at; value = number_in (evaluated p.walked e) }); default = λ h. h }
 
 -- into a scope, and out of it
 later_inside : (p q : P) → LaterPlace (inside p) q → LaterPlace p (outside p q)
 later_inside p q l = record { walked = record { found = l.walked.found; more = l.walked.more; locals = l.walked.locals; statics = l.walked.statics }; cases = l.cases; default = l.default }
 
-later_switch : (t : Typing) (p q r : P) → LaterPlace (in_switch q) r → LaterPlace p q → LaterPlace p (after_switch noted t p.cases p.has_default r)
+later_switch : (t : Typing) (p q r : P) → LaterPlace (in_switch q) r → LaterPlace p q → LaterPlace p (after_switch statement_rules.noting t p.cases p.has_default r)
 later_switch t p q r l k = record {
   walked = later p.walked q.walked _ k.walked (later q.walked r.walked _ l.walked (later_failing (repeated_cases t r.cases) r.walked));
   cases = omega arith;
@@ -104,53 +108,53 @@ later_switch t p q r l k = record {
 mutual
   unfolding after after_items
 
-  pub later_statement : (r : Typing) (p : P) (s : StatementTree) → LaterPlace p (after noted r p s)
-  later_statement r p (ast.block opened items closed) = later_inside p (after_items noted r (inside p) items) (later_items r (inside p) items)
+  pub later_statement : (r : Typing) (p : P) (s : StatementTree) → LaterPlace p (after statement_rules.noting r p s)
+  later_statement r p (ast.block opened items closed) = later_inside p (after_items statement_rules.noting r (inside p) items) (later_items r (inside p) items)
   later_statement r p (ast.empty at) = place_same p
-  later_statement r p (ast.expression_statement e) = later_on (after_effect noted e) p (later_effect e p.walked)
+  later_statement r p (ast.expression_statement e) = later_on (after_effect declaration_rules.noting e) p (later_effect e p.walked)
   later_statement r p (ast.label x s) = later_statement r p s
-  later_statement r p (ast.case at e s) = place_later p (with_case noted at e p) _ (later_case at e p) (later_statement r (with_case noted at e p) s)
+  later_statement r p (ast.case at e s) = place_later p (with_case declaration_rules.noting at e p) _ (later_case at e p) (later_statement r (with_case declaration_rules.noting at e p) s)
   later_statement r p (ast.default at s) =
       let l = later_statement r (with_default p) s in record { walked = l.walked; cases = l.cases; default = λ h. l.default refl }
-  later_statement r p (ast.if_then at e s) = let q = on (after_value noted e) p in place_later p q _ (later_on (after_value noted e) p (later_value e p.walked)) (later_statement r q s)
+  later_statement r p (ast.if_then at e s) = let q = on (after_value declaration_rules.noting e) p in place_later p q _ (later_on (after_value declaration_rules.noting e) p (later_value e p.walked)) (later_statement r q s)
   later_statement r p (ast.if_else at e s t) =
-      let q = on (after_value noted e) p in
-      let x = after noted r q s in
-      place_later p q _ (later_on (after_value noted e) p (later_value e p.walked)) (place_later q x _ (later_statement r q s) (later_statement r x t))
+      let q = on (after_value declaration_rules.noting e) p in
+      let x = after statement_rules.noting r q s in
+      place_later p q _ (later_on (after_value declaration_rules.noting e) p (later_value e p.walked)) (place_later q x _ (later_statement r q s) (later_statement r x t))
   later_statement r p (ast.switch at e s) =
-      let q = on (after_value noted e) p in later_switch (type_of (here p.walked) e) p q (after noted r (in_switch q) s) (later_statement r (in_switch q) s) (later_on (after_value noted e) p (later_value e p.walked))
-  later_statement r p (ast.while at e s) = let q = on (after_value noted e) p in place_later p q _ (later_on (after_value noted e) p (later_value e p.walked)) (later_statement r q s)
-  later_statement r p (ast.do_while at s e) = let q = after noted r p s in place_later p q _ (later_statement r p s) (later_on (after_value noted e) q (later_value e q.walked))
+      let q = on (after_value declaration_rules.noting e) p in later_switch (type_of (here p.walked) e) p q (after statement_rules.noting r (in_switch q) s) (later_statement r (in_switch q) s) (later_on (after_value declaration_rules.noting e) p (later_value e p.walked))
+  later_statement r p (ast.while at e s) = let q = on (after_value declaration_rules.noting e) p in place_later p q _ (later_on (after_value declaration_rules.noting e) p (later_value e p.walked)) (later_statement r q s)
+  later_statement r p (ast.do_while at s e) = let q = after statement_rules.noting r p s in place_later p q _ (later_statement r p s) (later_on (after_value declaration_rules.noting e) q (later_value e q.walked))
   later_statement r p (ast.for_loop at start test step s) =
       let i = inside p in
-      let q = on (after_head noted start test step) i in
-      later_inside p (after noted r q s) (place_later i q _ (later_on (after_head noted start test step) i (later_head start test step i.walked)) (later_statement r q s))
+      let q = on (after_head declaration_rules.noting start test step) i in
+      later_inside p (after statement_rules.noting r q s) (place_later i q _ (later_on (after_head declaration_rules.noting start test step) i (later_head start test step i.walked)) (later_statement r q s))
   later_statement r p (ast.goto at x) = place_same p
   later_statement r p (ast.continue at) = place_same p
   later_statement r p (ast.break at) = place_same p
   later_statement r p (ast.return at e) =
       let v = failing noted (fails_if (returns_otherwise r (is_some e)) rule.Return at) p.walked in
-      later_on (after_return noted r at e) p (later p.walked v _ (later_failing (fails_if (returns_otherwise r (is_some e)) rule.Return at) p.walked) (later_optional_value e v))
+      later_on (after_return statement_rules.noting r at e) p (later p.walked v _ (later_failing (fails_if (returns_otherwise r (is_some e)) rule.Return at) p.walked) (later_optional_value e v))
 
-  pub later_items : (r : Typing) (p : P) (is : ItemTrees) → LaterPlace p (after_items noted r p is)
+  pub later_items : (r : Typing) (p : P) (is : ItemTrees) → LaterPlace p (after_items statement_rules.noting r p is)
   later_items r p no_items = place_same p
-  later_items r p (declaration_then x d is) = let q = on (after_block_declaration noted x d) p in place_later p q _ (later_on (after_block_declaration noted x d) p (later_block_declaration x d p.walked)) (later_items r q is)
-  later_items r p (statement_then s is) = let q = after noted r p s in place_later p q _ (later_statement r p s) (later_items r q is)
+  later_items r p (declaration_then x d is) = let q = on (after_block_declaration declaration_rules.noting x d) p in place_later p q _ (later_on (after_block_declaration declaration_rules.noting x d) p (later_block_declaration x d p.walked)) (later_items r q is)
+  later_items r p (statement_then s is) = let q = after statement_rules.noting r p s in place_later p q _ (later_statement r p s) (later_items r q is)
 
 -- ---- a statement declares no name
 
-pub same_scope : (r : Typing) (p : P) (s : StatementTree) → (after noted r p s).walked.scoping ≡ p.walked.scoping
+pub same_scope : (r : Typing) (p : P) (s : StatementTree) → (after statement_rules.noting r p s).walked.scoping ≡ p.walked.scoping
 unfolding after
 same_scope r p (ast.block opened items closed) = refl
 same_scope r p (ast.empty at) = refl
 same_scope r p (ast.expression_statement e) = refl
 same_scope r p (ast.label x s) = same_scope r p s
-same_scope r p (ast.case at e s) = same_scope r (with_case noted at e p) s
+same_scope r p (ast.case at e s) = same_scope r (with_case declaration_rules.noting at e p) s
 same_scope r p (ast.default at s) = same_scope r (with_default p) s
-same_scope r p (ast.if_then at e s) = same_scope r (on (after_value noted e) p) s
-same_scope r p (ast.if_else at e s t) = let q = on (after_value noted e) p in same_scope r (after noted r q s) t ∙ same_scope r q s
-same_scope r p (ast.switch at e s) = same_scope r (in_switch (on (after_value noted e) p)) s
-same_scope r p (ast.while at e s) = same_scope r (on (after_value noted e) p) s
+same_scope r p (ast.if_then at e s) = same_scope r (on (after_value declaration_rules.noting e) p) s
+same_scope r p (ast.if_else at e s t) = let q = on (after_value declaration_rules.noting e) p in same_scope r (after statement_rules.noting r q s) t ∙ same_scope r q s
+same_scope r p (ast.switch at e s) = same_scope r (in_switch (on (after_value declaration_rules.noting e) p)) s
+same_scope r p (ast.while at e s) = same_scope r (on (after_value declaration_rules.noting e) p) s
 same_scope r p (ast.do_while at s e) = same_scope r p s
 same_scope r p (ast.for_loop at start test step s) = refl
 same_scope r p (ast.goto at x) = refl
@@ -347,19 +351,19 @@ abbrev OptionalEffectPart : Around → (w v : W) → Option (Option EffectTree) 
 OptionalEffectPart a w v None = Unit {0}
 OptionalEffectPart a w v (Some e) = IsEffectIf a e × Steps w v (calls_in_effect_if e) 0
 
-optional_value : (a : Around) (w : W) (e : Option ExpressionTree) → NamesAre a (here w) → HasConstantsIf e → (after_optional_value noted e w).found ≡ None → OptionalPart a w (after_optional_value noted e w) (optional_value_at w e)
+optional_value : (a : Around) (w : W) (e : Option ExpressionTree) → NamesAre a (here w) → HasConstantsIf e → (after_optional_value declaration_rules.noting e w).found ≡ None → OptionalPart a w (after_optional_value declaration_rules.noting e w) (optional_value_at w e)
 optional_value a w None n k h = (tt, steps_none w w refl refl)
 optional_value a w (Some e) n k h = some (value_at w e) (value_part a w e n k h)
   where
-    some : (o : Option ValueTree) → ValuePart a w (after_value noted e w) o → OptionalPart a w (after_value noted e w) (option_map Some o)
+    some : (o : Option ValueTree) → ValuePart a w (after_value declaration_rules.noting e w) o → OptionalPart a w (after_value declaration_rules.noting e w) (option_map Some o)
     some None p = tt
     some (Some e) p = p
 
-optional_effect : (a : Around) (w : W) (e : Option ExpressionTree) → NamesAre a (here w) → HasConstantsIf e → (after_optional_effect noted e w).found ≡ None → OptionalEffectPart a w (after_optional_effect noted e w) (optional_effect_at w e)
+optional_effect : (a : Around) (w : W) (e : Option ExpressionTree) → NamesAre a (here w) → HasConstantsIf e → (after_optional_effect declaration_rules.noting e w).found ≡ None → OptionalEffectPart a w (after_optional_effect declaration_rules.noting e w) (optional_effect_at w e)
 optional_effect a w None n k h = (tt, steps_none w w refl refl)
 optional_effect a w (Some e) n k h = some (effect_at w e) (effect_part a w e n k h)
   where
-    some : (o : Option EffectTree) → EffectPart a w (after_effect noted e w) o → OptionalEffectPart a w (after_effect noted e w) (option_map Some o)
+    some : (o : Option EffectTree) → EffectPart a w (after_effect declaration_rules.noting e w) o → OptionalEffectPart a w (after_effect declaration_rules.noting e w) (option_map Some o)
     some None p = tt
     some (Some e) p = p
 
@@ -371,26 +375,26 @@ record Starting (u : UnitTree) (ls : List LocalTree) (w v : W) (o : Option tree.
   names : NamesAre (around u ls v) (here v)
   part : StartPart u ls w v o
 
-optional_names : (u : UnitTree) (ls : List LocalTree) (w : W) (e : Option ExpressionTree) → NamesAre (around u ls w) (here w) → NamesAre (around u ls (after_optional_effect noted e w)) (here (after_optional_effect noted e w))
+optional_names : (u : UnitTree) (ls : List LocalTree) (w : W) (e : Option ExpressionTree) → NamesAre (around u ls w) (here w) → NamesAre (around u ls (after_optional_effect declaration_rules.noting e w)) (here (after_optional_effect declaration_rules.noting e w))
 optional_names u ls w None n = n
 optional_names u ls w (Some e) n = n
 
-optional_value_names : (u : UnitTree) (ls : List LocalTree) (w : W) (e : Option ExpressionTree) → NamesAre (around u ls w) (here w) → NamesAre (around u ls (after_optional_value noted e w)) (here (after_optional_value noted e w))
+optional_value_names : (u : UnitTree) (ls : List LocalTree) (w : W) (e : Option ExpressionTree) → NamesAre (around u ls w) (here w) → NamesAre (around u ls (after_optional_value declaration_rules.noting e w)) (here (after_optional_value declaration_rules.noting e w))
 optional_value_names u ls w None n = n
 optional_value_names u ls w (Some e) n = n
 
-starting : (u : UnitTree) (ls : List LocalTree) (w : W) (s : ForStartTree) → NamesAre (around u ls w) (here w) → StartHas s → Begins u ls (after_start noted s w) → (after_start noted s w).found ≡ None
-    → Starting u ls w (after_start noted s w) (start_at noted s w)
+starting : (u : UnitTree) (ls : List LocalTree) (w : W) (s : ForStartTree) → NamesAre (around u ls w) (here w) → StartHas s → Begins u ls (after_start declaration_rules.noting s w) → (after_start declaration_rules.noting s w).found ≡ None
+    → Starting u ls w (after_start declaration_rules.noting s w) (start_at declaration_rules.noting s w)
 starting u ls w (declaration d) n k b h =
     let all = declarations.declaration u ls d k w n b h in
-    record { names = all.names; part = listed (declaration_trees_at noted d w) all.part }
+    record { names = all.names; part = listed (declaration_trees_at declaration_rules.noting d w) all.part }
   where
-    listed : (o : Option (List DeclaredTree)) → AllDeclaredPart u ls w (after_declaration noted d w) o → StartPart u ls w (after_declaration noted d w) (option_map tree.declarations o)
+    listed : (o : Option (List DeclaredTree)) → AllDeclaredPart u ls w (after_declaration declaration_rules.noting d w) o → StartPart u ls w (after_declaration declaration_rules.noting d w) (option_map tree.declarations o)
     listed None p = tt
     listed (Some ds) p = p
 starting u ls w (expression e) n k b h = record { names = optional_names u ls w e n; part = some (optional_effect_at w e) (optional_effect (around u ls w) w e n k h) }
   where
-    some : (o : Option (Option EffectTree)) → OptionalEffectPart (around u ls w) w (after_optional_effect noted e w) o → StartPart u ls w (after_optional_effect noted e w) (option_map tree.expression o)
+    some : (o : Option (Option EffectTree)) → OptionalEffectPart (around u ls w) w (after_optional_effect declaration_rules.noting e w) o → StartPart u ls w (after_optional_effect declaration_rules.noting e w) (option_map tree.expression o)
     some None p = tt
     some (Some e) p = p
 
@@ -478,7 +482,7 @@ unfolding AreItems calls_in_items objects_in_items
 no_items_part u ls m w = (tt, steps_none w w refl refl)
 
 -- the names at the third part of a `for`, where no more objects are declared than at its test
-value_names : (u : UnitTree) (ls : List LocalTree) (w : W) (e : Option ExpressionTree) → NamesAre (around u ls w) (here w) → NamesAre (around u ls w) (here (after_optional_value noted e w))
+value_names : (u : UnitTree) (ls : List LocalTree) (w : W) (e : Option ExpressionTree) → NamesAre (around u ls w) (here w) → NamesAre (around u ls w) (here (after_optional_value declaration_rules.noting e w))
 value_names u ls w None n = n
 value_names u ls w (Some e) n = n
 
@@ -489,61 +493,61 @@ mutual
   unfolding after after_items typed typed_items StatementHas ItemsHave IsStatement calls_in_statement objects_in
 
   pub statements : (u : UnitTree) (ls : List LocalTree) (r : Typing) (labels : Labels) (m : Marks) → Fitting m r labels → (p : P) (s : StatementTree) → NamesAre (around u ls p.walked) (here p.walked) → StatementHas s
-      → Ends u ls m (after noted r p s) → StatementPart u ls m p.walked (after noted r p s).walked (typed noted r labels p s)
+      → Ends u ls m (after statement_rules.noting r p s) → StatementPart u ls m p.walked (after statement_rules.noting r p s).walked (typed statement_rules.noting r labels p s)
   statements u ls r labels m b p (ast.block opened items closed) n k e =
       let i = inside p in
-      let q = after_items noted r i items in
-      block_statement u ls m p.walked i.walked q.walked (outside p q).walked opened (typed_items noted r labels i items) refl refl refl refl
+      let q = after_items statement_rules.noting r i items in
+      block_statement u ls m p.walked i.walked q.walked (outside p q).walked opened (typed_items statement_rules.noting r labels i items) refl refl refl refl
       (items_part u ls r labels m b i items (names_opened (around u ls i.walked) p.walked.scoping n) k (record { begins = record { rest = e.begins.rest; is = e.begins.is; statics = e.begins.statics }; found = e.found; cases = e.cases; default = e.default }))
   statements u ls r labels m b p (ast.empty at) n k e = nothing u ls m p.walked p.walked (tree.empty at) refl refl tt refl refl
   statements u ls r labels m b p (ast.expression_statement x) n k e =
-      effect_statement u ls m p.walked (after_effect noted x p.walked) (first_place_of x) (effect_at p.walked x) (effect_part (around u ls p.walked) p.walked x n k e.found)
+      effect_statement u ls m p.walked (after_effect declaration_rules.noting x p.walked) (first_place_of x) (effect_at p.walked x) (effect_part (around u ls p.walked) p.walked x n k e.found)
   statements u ls r labels m b p (ast.label x s) n k e =
-      label_statement u ls m p.walked (after noted r p s).walked x.at (labels (spelled p.walked.scoping.text x)) (typed noted r labels p s) (b.0 (spelled p.walked.scoping.text x)) (statements u ls r labels m b p s n k e)
+      label_statement u ls m p.walked (after statement_rules.noting r p s).walked x.at (labels (spelled p.walked.scoping.text x)) (typed statement_rules.noting r labels p s) (b.0 (spelled p.walked.scoping.text x)) (statements u ls r labels m b p s n k e)
   statements u ls r labels m b p (ast.case at x s) n k e =
-      let q = with_case noted at x p in
+      let q = with_case declaration_rules.noting at x p in
       let l = ends_before u ls m q _ (later_statement r q s) e in
-      case_statement u ls m p.walked q.walked (after noted r q s).walked at (length p.cases) (typed noted r labels q s) (one_longer p.cases (record { at = at; value = number_in (evaluated p.walked x) }) m.cases l.cases) (constant_steps x p.walked l.found)
+      case_statement u ls m p.walked q.walked (after statement_rules.noting r q s).walked at (length p.cases) (typed statement_rules.noting r labels q s) (one_longer p.cases (record { at = at; value = number_in (evaluated p.walked x) }) m.cases l.cases) (constant_steps x p.walked l.found)
       (statements u ls r labels m b q s n k.1 e)
   statements u ls r labels m b p (ast.default at s) n k e =
       let q = with_default p in
-      default_statement u ls m p.walked (after noted r q s).walked at (typed noted r labels q s) (e.default ((later_statement r q s).default refl)) (statements u ls r labels m b q s n k e)
+      default_statement u ls m p.walked (after statement_rules.noting r q s).walked at (typed statement_rules.noting r labels q s) (e.default ((later_statement r q s).default refl)) (statements u ls r labels m b q s n k e)
   statements u ls r labels m b p (ast.if_then at x s) n k e =
-      let q = on (after_value noted x) p in
+      let q = on (after_value declaration_rules.noting x) p in
       let l = ends_before u ls m q _ (later_statement r q s) e in
-      then_statement u ls m p.walked q.walked (after noted r q s).walked at (value_at p.walked x) (typed noted r labels q s) (value_part (around u ls p.walked) p.walked x n k.0 l.found) (statements u ls r labels m b q s n k.1 e)
+      then_statement u ls m p.walked q.walked (after statement_rules.noting r q s).walked at (value_at p.walked x) (typed statement_rules.noting r labels q s) (value_part (around u ls p.walked) p.walked x n k.0 l.found) (statements u ls r labels m b q s n k.1 e)
   statements u ls r labels m b p (ast.if_else at x s t) n k e =
-      let q = on (after_value noted x) p in
-      let o = after noted r q s in
+      let q = on (after_value declaration_rules.noting x) p in
+      let o = after statement_rules.noting r q s in
       let l = ends_before u ls m o _ (later_statement r o t) e in
       let i = ends_before u ls m q _ (later_statement r q s) l in
-      else_statement u ls m p.walked q.walked o.walked (after noted r o t).walked at (value_at p.walked x) (typed noted r labels q s) (typed noted r labels o t) (value_part (around u ls p.walked) p.walked x n k.0 i.found)
+      else_statement u ls m p.walked q.walked o.walked (after statement_rules.noting r o t).walked at (value_at p.walked x) (typed statement_rules.noting r labels q s) (typed statement_rules.noting r labels o t) (value_part (around u ls p.walked) p.walked x n k.0 i.found)
       (statements u ls r labels m b q s n k.1 l) (statements u ls r labels m b o t (names_behind u ls q.walked o.walked (later_statement r q s).walked (same_scope r q s) n) k.2 e)
   statements u ls r labels m b p (ast.switch at x s) n k e =
-      let q = in_switch (on (after_value noted x) p) in
-      let o = after noted r q s in
+      let q = in_switch (on (after_value declaration_rules.noting x) p) in
+      let o = after statement_rules.noting r q s in
       let t = type_of (here p.walked) x in
       let f = (later_failing (repeated_cases t o.cases) o.walked).found e.found in
       let inner : Ends u ls (good.in_switch (length o.cases) o.has_default m) o = record { begins = record { rest = e.begins.rest; is = e.begins.is; statics = e.begins.statics }; found = f; cases = omega arith; default = λ h. h } in
       let l = ends_before u ls (good.in_switch (length o.cases) o.has_default m) q o (later_statement r q s) inner in
-      switch_statement u ls m p.walked q.walked o.walked (after_switch noted t p.cases p.has_default o).walked at o (value_at p.walked x) t (typed noted r labels q s) refl refl (value_part (around u ls p.walked) p.walked x n k.0 l.found)
+      switch_statement u ls m p.walked q.walked o.walked (after_switch statement_rules.noting t p.cases p.has_default o).walked at o (value_at p.walked x) t (typed statement_rules.noting r labels q s) refl refl (value_part (around u ls p.walked) p.walked x n k.0 l.found)
       (statements u ls r labels (good.in_switch (length o.cases) o.has_default m) b q s n k.1 inner)
   statements u ls r labels m b p (ast.while at x s) n k e =
-      let q = on (after_value noted x) p in
+      let q = on (after_value declaration_rules.noting x) p in
       let l = ends_before u ls m q _ (later_statement r q s) e in
-      while_statement u ls m p.walked q.walked (after noted r q s).walked at (value_at p.walked x) (typed noted r labels q s) (value_part (around u ls p.walked) p.walked x n k.0 l.found) (statements u ls r labels m b q s n k.1 e)
+      while_statement u ls m p.walked q.walked (after statement_rules.noting r q s).walked at (value_at p.walked x) (typed statement_rules.noting r labels q s) (value_part (around u ls p.walked) p.walked x n k.0 l.found) (statements u ls r labels m b q s n k.1 e)
   statements u ls r labels m b p (ast.do_while at s x) n k e =
-      let q = after noted r p s in
-      let l = ends_before u ls m q (on (after_value noted x) q) (later_on (after_value noted x) q (later_value x q.walked)) e in
-      do_statement u ls m p.walked q.walked (after_value noted x q.walked) at (typed noted r labels p s) (value_at q.walked x) (statements u ls r labels m b p s n k.0 l)
+      let q = after statement_rules.noting r p s in
+      let l = ends_before u ls m q (on (after_value declaration_rules.noting x) q) (later_on (after_value declaration_rules.noting x) q (later_value x q.walked)) e in
+      do_statement u ls m p.walked q.walked (after_value declaration_rules.noting x q.walked) at (typed statement_rules.noting r labels p s) (value_at q.walked x) (statements u ls r labels m b p s n k.0 l)
       (value_part (around u ls p.walked) q.walked x (subst (λ (c : Scoping). NamesAre (around u ls p.walked) (names_in c)) (sym (same_scope r p s)) n) k.1 e.found)
   statements u ls r labels m b p (ast.for_loop at start test step s) n k e =
       let i = inside p in
-      let v = after_start noted start i.walked in
-      let x = after_optional_value noted test v in
-      let y = after_optional_effect noted step x in
-      let q = on (after_head noted start test step) i in
-      let o = after noted r q s in
+      let v = after_start declaration_rules.noting start i.walked in
+      let x = after_optional_value declaration_rules.noting test v in
+      let y = after_optional_effect declaration_rules.noting step x in
+      let q = on (after_head declaration_rules.noting start test step) i in
+      let o = after statement_rules.noting r q s in
       let inner : Ends u ls m o = record { begins = record { rest = e.begins.rest; is = e.begins.is; statics = e.begins.statics }; found = e.found; cases = e.cases; default = e.default } in
       let l = ends_before u ls m q o (later_statement r q s) inner in
       let fx = (later_optional_effect step x).found l.found in
@@ -551,31 +555,31 @@ mutual
       let bv = begins_before u ls v y (later v x y (later_optional_value test v) (later_optional_effect step x)) l.begins in
       let first = starting u ls i.walked start (names_opened (around u ls i.walked) p.walked.scoping n) k.0 bv fv in
       let nx = optional_value_names u ls v test first.names in
-      for_statement u ls m p.walked i.walked v x y o.walked (outside p o).walked at (start_at noted start i.walked) (optional_value_at v test) (optional_effect_at x step) (typed noted r labels q s) refl refl refl refl
+      for_statement u ls m p.walked i.walked v x y o.walked (outside p o).walked at (start_at declaration_rules.noting start i.walked) (optional_value_at v test) (optional_effect_at x step) (typed statement_rules.noting r labels q s) refl refl refl refl
       first.part (optional_value (around u ls v) v test first.names k.1 fx) (optional_effect (around u ls v) x step (value_names u ls v test first.names) k.2 l.found)
       (statements u ls r labels m b q s (optional_names u ls x step nx) k.3 inner)
   statements u ls r labels m b p (ast.goto at x) n k e = goto_statement u ls m p.walked at (labels (spelled p.walked.scoping.text x)) (b.0 (spelled p.walked.scoping.text x))
   statements u ls r labels m b p (ast.continue at) n k e = nothing u ls m p.walked p.walked (tree.continue at) refl refl tt refl refl
   statements u ls r labels m b p (ast.break at) n k e = nothing u ls m p.walked p.walked (tree.break at) refl refl tt refl refl
-  statements u ls r labels m b p (ast.return at None) n k e = nothing u ls m p.walked (after noted r p (ast.return at None)).walked (tree.return at None) refl refl
+  statements u ls r labels m b p (ast.return at None) n k e = nothing u ls m p.walked (after statement_rules.noting r p (ast.return at None)).walked (tree.return at None) refl refl
       (let none = returns_nothing r (holds_not _ _ _ (none_found p.walked.found (fails_if (returns_otherwise r false) rule.Return at) e.found).1) b.2 in subst (λ (q : Option IntType). IsReturned (around u ls p.walked) q None) (sym (b.1 ∙ none)) tt) refl refl
   statements u ls r labels m b p (ast.return at (Some x)) n k e =
       let fs = fails_if (returns_otherwise r true) rule.Return at in
       let w = failing noted fs p.walked in
       let s = value_part (around u ls p.walked) w x n k e.found in
       let some = returns_value r (holds_not _ _ _ (none_found p.walked.found fs ((later_value x w).found e.found)).1) b.2 in
-      return_statement u ls m p.walked (after_value noted x w) at some.0 (value_at w x) (b.1 ∙ some.1) (from_there (around u ls p.walked) p.walked w (after_value noted x w) (value_at w x) refl refl s)
+      return_statement u ls m p.walked (after_value declaration_rules.noting x w) at some.0 (value_at w x) (b.1 ∙ some.1) (from_there (around u ls p.walked) p.walked w (after_value declaration_rules.noting x w) (value_at w x) refl refl s)
 
   pub items_part : (u : UnitTree) (ls : List LocalTree) (r : Typing) (labels : Labels) (m : Marks) → Fitting m r labels → (p : P) (is : ItemTrees) → NamesAre (around u ls p.walked) (here p.walked) → ItemsHave is
-      → Ends u ls m (after_items noted r p is) → ItemsPart u ls m p.walked (after_items noted r p is).walked (typed_items noted r labels p is)
+      → Ends u ls m (after_items statement_rules.noting r p is) → ItemsPart u ls m p.walked (after_items statement_rules.noting r p is).walked (typed_items statement_rules.noting r labels p is)
   items_part u ls r labels m b p no_items n k e = no_items_part u ls m p.walked
   items_part u ls r labels m b p (declaration_then x d is) n k e =
-      let q = on (after_block_declaration noted x d) p in
+      let q = on (after_block_declaration declaration_rules.noting x d) p in
       let l = ends_before u ls m q _ (later_items r q is) e in
       let all = block_declaration u ls x d k.0 p.walked n l.begins l.found in
-      declared_first u ls m p.walked q.walked (after_items noted r q is).walked (block_declaration_at noted x d p.walked) (typed_items noted r labels q is) all.part (items_part u ls r labels m b q is all.names k.1 e)
+      declared_first u ls m p.walked q.walked (after_items statement_rules.noting r q is).walked (block_declaration_at declaration_rules.noting x d p.walked) (typed_items statement_rules.noting r labels q is) all.part (items_part u ls r labels m b q is all.names k.1 e)
   items_part u ls r labels m b p (statement_then s is) n k e =
-      let q = after noted r p s in
+      let q = after statement_rules.noting r p s in
       let l = ends_before u ls m q _ (later_items r q is) e in
-      statement_first u ls m p.walked q.walked (after_items noted r q is).walked (typed noted r labels p s) (typed_items noted r labels q is) (statements u ls r labels m b p s n k.0 l)
+      statement_first u ls m p.walked q.walked (after_items statement_rules.noting r q is).walked (typed statement_rules.noting r labels p s) (typed_items statement_rules.noting r labels q is) (statements u ls r labels m b p s n k.0 l)
       (items_part u ls r labels m b q is (names_behind u ls p.walked q.walked (later_statement r p s).walked (same_scope r p s) n) k.1 e)

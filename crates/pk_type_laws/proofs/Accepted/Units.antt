@@ -24,7 +24,7 @@ use Rattle.pk_type_scope.specs.declared.declarations.Typing.{Typing}
 use Rattle.pk_type_scope.specs.declared.declarations.Typing.TheVariants.{Void, Integer, Unknown}
 use Rattle.pk_type_scope.specs.declared.failures.Failure.{Failure}
 use Rattle.pk_type_scope.specs.Declarations.{Names, is_unknown}
-use Rattle.pk_type_scope.specs.Failures.{fails_if, noted}
+use Rattle.pk_type_scope.specs.Failures.{fails_if}
 use Rattle.pk_type_scope.specs.Scopes.{names_in, spelled, file_scope}
 use Rattle.pk_type_scope.specs.Specifiers.{word_failures, type_named}
 use Rattle.pk_type_declaration.specs.declared.words.Words.{Words}
@@ -34,11 +34,13 @@ use Rattle.pk_ctypes.specs.Spellings.{lookup}
 use Rattle.pk_type_declaration.specs.Specials.{special, specials}
 use Rattle.std.specs.Str.{bytes_eq}
 use Rattle.pk_type_declaration.specs.Walks.{here, entering}
+use Rattle.pk_type_declaration.specs.Rules as declarations
 use Rattle.pk_type.specs.Files.{EntryTree, on, after_object, after_objects, after_declaration}
-use Rattle.pk_type.specs.Functions.{after_parameters, changes, is_redeclared, is_misused, number_of, callee_of, with_new, after_head, after_body, body_at, with_body, update_at, leaving_function, after_optional_body, after_function}
-use Rattle.pk_type.specs.Signatures as signature
-use Rattle.pk_type.specs.Signatures.{SignatureTree, differ, all_differ, is_integer, are_integers, differs, types_of, signature_of}
+use Rattle.pk_type.specs.Functions.{after_parameters, number_of, callee_of, with_new, after_head, after_body, body_at, with_body, update_at, leaving_function, after_optional_body, after_function}
+use Rattle.pk_type.specs.Signatures.{SignatureTree, types_of, signature_of}
 use Rattle.pk_type.specs.Units.{no_name, defined_in, objects_of, objects_in, after_external, after_externals, nothing_filed, checked, function_of, unit_of}
+use Rattle.pk_type.specs.Rules as units
+use Rattle.pk_type.specs.Rules.{changes, is_redeclared, is_misused, differ, all_differ, is_integer, are_integers, differs}
 use Rattle.pk_welltyped.specs.WellTyped.{Takes, AreParameters, IsBodyIf, IsStart}
 use Rattle.pk_type_laws.specs.Accepted.Constants.{BlockHas, ExternalHas, ExternalsHave}
 use Rattle.pk_type_laws.specs.Accepted.Names.{CalleeIs, DeclarationIs}
@@ -58,7 +60,7 @@ numbered n =
     if nat_eq n 0 then Char else if nat_eq n 1 then SChar else if nat_eq n 2 then UChar else if nat_eq n 3 then Short else if nat_eq n 4 then UShort else if nat_eq n 5 then Int
     else if nat_eq n 6 then UInt else if nat_eq n 7 then Long else if nat_eq n 8 then ULong else if nat_eq n 9 then LLong else ULLong
 
-its_number : (t : IntType) → numbered (signature.number_of t) ≡ t
+its_number : (t : IntType) → numbered (units.number_of t) ≡ t
 its_number Char = refl
 its_number SChar = refl
 its_number UChar = refl
@@ -92,7 +94,7 @@ same_type Void Void h k d = refl
 same_type Void (Integer u) h k d = absurd (false≢true (sym d))
 same_type (Integer t) Unknown h k d = absurd (false≢true (sym k))
 same_type (Integer t) Void h k d = absurd (false≢true (sym d))
-same_type (Integer t) (Integer u) h k d = ap Integer (sym (its_number t) ∙ (ap numbered (same_number (signature.number_of t) (signature.number_of u) d) ∙ its_number u))
+same_type (Integer t) (Integer u) h k d = ap Integer (sym (its_number t) ∙ (ap numbered (same_number (units.number_of t) (units.number_of u) d) ∙ its_number u))
 
 known_integer : (t : Typing) → is_integer t ≡ true → is_unknown t ≡ false
 known_integer Void h = refl
@@ -179,7 +181,7 @@ head_rows f file =
     let s = signature_of (here w) f in
     word_failures (here w) f.specifiers ++ fails_if (is_redeclared file.functions s (is_some f.body) (names_in w.scoping f.name)) rule.Redeclared f.name.at ++ fails_if (is_misused s (special (spelled w.scoping.text f.name))) rule.Special f.name.at
 
-later_head : (defined : List ℕ → Bool) (f : FunctionTree) (file : F) → LaterFile file (after_head noted defined f file)
+later_head : (defined : List ℕ → Bool) (f : FunctionTree) (file : F) → LaterFile file (after_head units.noting defined f file)
 later_head defined f file = record {
   found = λ h. (none_found file.walked.found (head_rows f file) h).0;
   more = [];
@@ -255,8 +257,8 @@ record HeadIs (u : UnitTree) (h : F) (n : ℕ) (s : SignatureTree) : Type 0 wher
   entry : EntryAt h.functions n s
   known : is_unknown s.returns ≡ false
 
-head : (u : UnitTree) (defined : List ℕ → Bool) (f : FunctionTree) (file : F) → FileIs u file → Stands u (after_head noted defined f file) → (after_head noted defined f file).walked.found ≡ None → Integers (types_of (here file.walked) f.parameters)
-    → HeadIs u (after_head noted defined f file) (number_of file.functions (names_in file.walked.scoping f.name)) (signature_of (here file.walked) f)
+head : (u : UnitTree) (defined : List ℕ → Bool) (f : FunctionTree) (file : F) → FileIs u file → Stands u (after_head units.noting defined f file) → (after_head units.noting defined f file).walked.found ≡ None → Integers (types_of (here file.walked) f.parameters)
+    → HeadIs u (after_head units.noting defined f file) (number_of file.functions (names_in file.walked.scoping f.name)) (signature_of (here file.walked) f)
 head u defined f file h s k i =
     let w = file.walked in
     let b = names_in w.scoping f.name in
@@ -269,11 +271,11 @@ head u defined f file h s k i =
     let x = s.functions n e.entry e.there in
     let q = spelled w.scoping.text f.name in
     let g : Declaration = Function (record { number = n; callee = callee_of (signature_of (here file.walked) f) (defined q) (special q) }) in
-    let known : (y : Identifier) → KnownIn (after_head noted defined f file).functions (names_in w.scoping y) = λ y. known_new file.functions n (text_of w.scoping f.name) (signature_of (here file.walked) f) (names_in w.scoping y) (h.known y) in
+    let known : (y : Identifier) → KnownIn (after_head units.noting defined f file).functions (names_in w.scoping y) = λ y. known_new file.functions n (text_of w.scoping f.name) (signature_of (here file.walked) f) (names_in w.scoping y) (h.known y) in
     record {
       file = record {
         names = names_declaring (in_file u) w.scoping f.name g h.names (callee_is u n (signature_of (here file.walked) f) (defined q) (special q) (are_special q) unknown (takes (signature_of (here file.walked) f) (slice_get u.functions n) x.0 x.1 (x.2 ∙ e.same)));
-        known = known_declaring (after_head noted defined f file).functions w.scoping f.name g known (e.entry, e.there);
+        known = known_declaring (after_head units.noting defined f file).functions w.scoping f.name g known (e.entry, e.there);
         locals = h.locals;
         objects = h.objects;
         entries = new_entries (EntryIs u) file.functions n (text_of w.scoping f.name) (signature_of (here file.walked) f) h.entries (record { body = tt; integers = i; returns = unknown });
@@ -291,25 +293,25 @@ head u defined f file h s k i =
 
 -- ---- functions
 
-later_optional_body : (r : Typing) (n : ℕ) (b : Option BlockTree) (f : F) → LaterFile f (after_optional_body noted r n b f)
+later_optional_body : (r : Typing) (n : ℕ) (b : Option BlockTree) (f : F) → LaterFile f (after_optional_body units.noting r n b f)
 later_optional_body r n None f = file_same f
 later_optional_body r n (Some b) f = record {
   found = λ h. (later_body r b f.walked).found h;
   more = [];
   objects = sym (append-nil f.objects);
-  entries = update_keeps (body_at noted r (length f.objects) b f.walked) n f.functions;
+  entries = update_keeps (body_at units.noting r (length f.objects) b f.walked) n f.functions;
   statics = (later_body r b f.walked).statics;
 }
 
-pub later_function : (defined : List ℕ → Bool) (f : FunctionTree) (file : F) → LaterFile file (after_function noted defined f file)
+pub later_function : (defined : List ℕ → Bool) (f : FunctionTree) (file : F) → LaterFile file (after_function units.noting defined f file)
 unfolding after_function
 later_function defined f file =
     let n = number_of file.functions (names_in file.walked.scoping f.name) in
-    let h = after_head noted defined f file in
+    let h = after_head units.noting defined f file in
     let i = on entering h in
-    let g = on (after_parameters noted f.parameters) i in
+    let g = on (after_parameters units.noting f.parameters) i in
     let r = type_named (here file.walked) f.specifiers in
-    let x = after_optional_body noted r n f.body g in
+    let x = after_optional_body units.noting r n f.body g in
     let a = later_head defined f file in
     let b = later_optional_body r n f.body g in
     let p = later_parameters f.parameters i.walked in
@@ -330,14 +332,14 @@ known_kept es fs (Some (Function f)) k h = there (slice_get fs f.number) refl (k
 -- the entries of a function whose parameters and body are looked at
 with_block : (u : UnitTree) (r : Typing) (n : ℕ) (c : Names) (ps : List ParameterTree) (b : Option BlockTree) (h : F) (e : EntryTree) → FileIs u h → TypesFrom c (here (on entering h).walked) → h.walked.calls ≡ []
     → slice_get h.functions n ≡ Some e → e.signature.parameters ≡ types_of c ps → e.signature.returns ≡ r → is_unknown r ≡ false → BlockHas b
-    → (let g = on (after_parameters noted ps) (on entering h) in let x = after_optional_body noted r n b g in Stands u x → x.walked.found ≡ None → (i : ℕ) (d : EntryTree) → slice_get x.functions i ≡ Some d → EntryIs u d)
+    → (let g = on (after_parameters units.noting ps) (on entering h) in let x = after_optional_body units.noting r n b g in Stands u x → x.walked.found ≡ None → (i : ℕ) (d : EntryTree) → slice_get x.functions i ≡ Some d → EntryIs u d)
 with_block u r n c ps None h e is from none there same ret known has s k = is.entries
 with_block u r n c ps (Some b) h e is from none there same ret known has s k =
     let w = (on entering h).walked in
-    let v = after_parameters noted ps w in
-    let ls = (after_body noted r b v).locals in
+    let v = after_parameters units.noting ps w in
+    let ls = (after_body units.noting r b v).locals in
     let l = later_body r b v in
-    let z = after_body noted r b v in
+    let z = after_body units.noting r b v in
     let begins : Begins u ls v = record { rest = l.more; is = l.locals; statics = statics_before u v.statics z.statics l.statics s.statics } in
     let p = parameters u ls c ps w (names_opened (around u ls w) h.walked.scoping (names_from_file u ls (length w.locals) (here h.walked) is.names)) from begins (l.found k) in
     let locals : v.locals ≡ p.more = p.locals ∙ ap (λ (xs : List LocalTree). xs ++ p.more) is.locals in
@@ -346,28 +348,28 @@ with_block u r n c ps (Some b) h e is from none there same ret known has s k =
     subst (λ (ts : List IntType). AreParameters ts ls) types (subst (AreParameters (map type_or_int (types_of c ps))) (ap (λ (xs : List LocalTree). xs ++ l.more) (sym locals) ∙ sym l.locals) (with_others (map type_or_int (types_of c ps)) p.more l.more p.are)) in
     let many : length v.locals ≡ length (map type_or_int e.signature.parameters) = ap length locals ∙ (p.many ∙ ap length types) in
     let visible : length h.objects ≤ length u.objects = omega (ap length s.objects ∙ length-append h.objects s.rest, arith) in
-    let made = body_at noted r (length h.objects) b v in
+    let made = body_at units.noting r (length h.objects) b v in
     let whole = body u (function_of (with_body made e)) r (length h.objects) b v s.statics visible (p.calls ∙ none) are many (ap integer_in ret) known p.names has k in
-    updated (EntryIs u) (with_body (body_at noted r (length h.objects) b v)) n h.functions is.entries
+    updated (EntryIs u) (with_body (body_at units.noting r (length h.objects) b v)) n h.functions is.entries
     (λ d is_d. let same_entry : e ≡ d = ap (λ (o : Option EntryTree). unwrap_or o d) (sym there ∙ is_d) in
     let x = is.entries n d is_d in
     record { body = subst (λ (y : EntryTree). IsBodyIf u (function_of (with_body made y)) made) same_entry whole; integers = x.integers; returns = x.returns })
 
-same_objects : (r : Typing) (n : ℕ) (b : Option BlockTree) (f : F) → (after_optional_body noted r n b f).objects ≡ f.objects
+same_objects : (r : Typing) (n : ℕ) (b : Option BlockTree) (f : F) → (after_optional_body units.noting r n b f).objects ≡ f.objects
 same_objects r n None f = refl
 same_objects r n (Some b) f = refl
 
-pub function_is : (u : UnitTree) (defined : List ℕ → Bool) (f : FunctionTree) (file : F) → FileIs u file → file.walked.calls ≡ [] → BlockHas f.body → Stands u (after_function noted defined f file)
-    → (after_function noted defined f file).walked.found ≡ None
-    → FileIs u (after_function noted defined f file)
+pub function_is : (u : UnitTree) (defined : List ℕ → Bool) (f : FunctionTree) (file : F) → FileIs u file → file.walked.calls ≡ [] → BlockHas f.body → Stands u (after_function units.noting defined f file)
+    → (after_function units.noting defined f file).walked.found ≡ None
+    → FileIs u (after_function units.noting defined f file)
 unfolding after_function
 function_is u defined f file is c has s k =
     let n = number_of file.functions (names_in file.walked.scoping f.name) in
-    let h = after_head noted defined f file in
+    let h = after_head units.noting defined f file in
     let i = on entering h in
-    let g = on (after_parameters noted f.parameters) i in
+    let g = on (after_parameters units.noting f.parameters) i in
     let r = type_named (here file.walked) f.specifiers in
-    let x = after_optional_body noted r n f.body g in
+    let x = after_optional_body units.noting r n f.body g in
     let b = later_optional_body r n f.body g in
     let kg = b.found k in
     let kh = (later_parameters f.parameters i.walked).found kg in
@@ -387,34 +389,34 @@ function_is u defined f file is c has s k =
 
 -- ---- texts
 
-pub external_later : (defined : List ℕ → Bool) (x : ExternalTree) (f : F) → LaterFile f (after_external noted defined x f)
+pub external_later : (defined : List ℕ → Bool) (x : ExternalTree) (f : F) → LaterFile f (after_external units.noting defined x f)
 external_later defined (function g) f = later_function defined g f
 external_later defined (objects storage d) f = files.later_declaration storage d f
 external_later defined (type_names d) f = later_typedef d f
 
-pub externals_later : (defined : List ℕ → Bool) (xs : List ExternalTree) (f : F) → LaterFile f (after_externals noted defined xs f)
+pub externals_later : (defined : List ℕ → Bool) (xs : List ExternalTree) (f : F) → LaterFile f (after_externals units.noting defined xs f)
 unfolding after_externals
 externals_later defined [] f = file_same f
-externals_later defined (x ∷ xs) f = file_later f (after_external noted defined x f) _ (external_later defined x f) (externals_later defined xs (after_external noted defined x f))
+externals_later defined (x ∷ xs) f = file_later f (after_external units.noting defined x f) _ (external_later defined x f) (externals_later defined xs (after_external units.noting defined x f))
 
-pub external_calls : (defined : List ℕ → Bool) (x : ExternalTree) (f : F) → f.walked.calls ≡ [] → (after_external noted defined x f).walked.calls ≡ []
+pub external_calls : (defined : List ℕ → Bool) (x : ExternalTree) (f : F) → f.walked.calls ≡ [] → (after_external units.noting defined x f).walked.calls ≡ []
 unfolding after_function after_declaration
 external_calls defined (function g) f c = refl
 external_calls defined (objects storage d) f c = refl
 external_calls defined (type_names d) f c = refl
 
-external_is : (u : UnitTree) (defined : List ℕ → Bool) (x : ExternalTree) (f : F) → FileIs u f → f.walked.calls ≡ [] → ExternalHas x → Stands u (after_external noted defined x f) → (after_external noted defined x f).walked.found ≡ None
-    → FileIs u (after_external noted defined x f)
+external_is : (u : UnitTree) (defined : List ℕ → Bool) (x : ExternalTree) (f : F) → FileIs u f → f.walked.calls ≡ [] → ExternalHas x → Stands u (after_external units.noting defined x f) → (after_external units.noting defined x f).walked.found ≡ None
+    → FileIs u (after_external units.noting defined x f)
 external_is u defined (function g) f is c has s k = function_is u defined g f is c has s k
 external_is u defined (objects storage d) f is c has s k = files.declaration u storage d f is s k
 external_is u defined (type_names d) f is c has s k = typedef_is u d f is k
 
-externals_are : (u : UnitTree) (defined : List ℕ → Bool) (xs : List ExternalTree) (f : F) → FileIs u f → f.walked.calls ≡ [] → ExternalsHave xs → Stands u (after_externals noted defined xs f) → (after_externals noted defined xs f).walked.found ≡ None
-    → FileIs u (after_externals noted defined xs f)
+externals_are : (u : UnitTree) (defined : List ℕ → Bool) (xs : List ExternalTree) (f : F) → FileIs u f → f.walked.calls ≡ [] → ExternalsHave xs → Stands u (after_externals units.noting defined xs f) → (after_externals units.noting defined xs f).walked.found ≡ None
+    → FileIs u (after_externals units.noting defined xs f)
 unfolding after_externals
 externals_are u defined [] f is c has s k = is
 externals_are u defined (x ∷ xs) f is c has s k =
-    let g = after_external noted defined x f in
+    let g = after_external units.noting defined x f in
     let l = externals_later defined xs g in
     externals_are u defined xs g (external_is u defined x f is c has.0 (stands_before u g _ l s) (l.found k)) (external_calls defined x f c) has.1 s k
 
@@ -451,33 +453,33 @@ functions_are f is k d l =
 
 -- ---- the objects of the file
 
-objects_counted : (storage : Option Storage) (words : Words) (ds : List DeclaratorTree) (f : F) → length (after_objects noted storage words ds f).objects ≡ length f.objects + length ds
+objects_counted : (storage : Option Storage) (words : Words) (ds : List DeclaratorTree) (f : F) → length (after_objects units.noting storage words ds f).objects ≡ length f.objects + length ds
 unfolding after_objects after_object
 objects_counted storage words [] f = sym (add-zero (length f.objects))
 objects_counted storage words (d ∷ ds) f =
-    let h = objects_counted storage words ds (after_object noted storage words d f) in
-    let one : length (after_object noted storage words d f).objects ≡ length f.objects + 1 = length-append f.objects _ in
+    let h = objects_counted storage words ds (after_object units.noting storage words d f) in
+    let one : length (after_object units.noting storage words d f).objects ≡ length f.objects + 1 = length-append f.objects _ in
     omega (h, one, arith)
 
-block_objects : (r : Typing) (n : ℕ) (b : Option BlockTree) (f : F) → length (after_optional_body noted r n b f).objects ≡ length f.objects + 0
+block_objects : (r : Typing) (n : ℕ) (b : Option BlockTree) (f : F) → length (after_optional_body units.noting r n b f).objects ≡ length f.objects + 0
 block_objects r n None f = sym (add-zero (length f.objects))
 block_objects r n (Some b) f = sym (add-zero (length f.objects))
 
-external_counted : (defined : List ℕ → Bool) (x : ExternalTree) (f : F) → length (after_external noted defined x f).objects ≡ length f.objects + objects_of x
+external_counted : (defined : List ℕ → Bool) (x : ExternalTree) (f : F) → length (after_external units.noting defined x f).objects ≡ length f.objects + objects_of x
 unfolding after_function after_declaration
 external_counted defined (function g) f =
-    let i = on entering (after_head noted defined g f) in
-    block_objects (type_named (here f.walked) g.specifiers) (number_of f.functions (names_in f.walked.scoping g.name)) g.body (on (after_parameters noted g.parameters) i)
+    let i = on entering (after_head units.noting defined g f) in
+    block_objects (type_named (here f.walked) g.specifiers) (number_of f.functions (names_in f.walked.scoping g.name)) g.body (on (after_parameters units.noting g.parameters) i)
 external_counted defined (objects storage d) f =
-    objects_counted storage (words_at (here f.walked) d.specifiers d.enumeration) d.declarators (on (after_words noted d.specifiers d.enumeration) f)
+    objects_counted storage (words_at (here f.walked) d.specifiers d.enumeration) d.declarators (on (after_words declarations.noting d.specifiers d.enumeration) f)
 external_counted defined (type_names d) f = sym (add-zero (length f.objects))
 
 -- a text has as many as were counted ahead
-externals_counted : (defined : List ℕ → Bool) (xs : List ExternalTree) (f : F) → length (after_externals noted defined xs f).objects ≡ length f.objects + objects_in xs
+externals_counted : (defined : List ℕ → Bool) (xs : List ExternalTree) (f : F) → length (after_externals units.noting defined xs f).objects ≡ length f.objects + objects_in xs
 unfolding after_externals objects_in
 externals_counted defined [] f = sym (add-zero (length f.objects))
 externals_counted defined (x ∷ xs) f =
-    let h = externals_counted defined xs (after_external noted defined x f) in
+    let h = externals_counted defined xs (after_external units.noting defined x f) in
     let one = external_counted defined x f in
     omega (h, one, arith)
 
@@ -485,9 +487,9 @@ pub record WellTyped (f : F) : Type 0 where
   pub objects : All (λ (x : tree.FileObjectTree). IsStart x.int_type x.start) f.objects
   pub functions : All (λ (g : tree.FunctionTree). IsBodyIf (unit_of f) g g.body) (map function_of f.functions)
 
-pub texts_are_well_typed : (text : List ℕ) (xs : List ExternalTree) → ExternalsHave xs → (checked noted None text xs).walked.found ≡ None → WellTyped (checked noted None text xs)
+pub texts_are_well_typed : (text : List ℕ) (xs : List ExternalTree) → ExternalsHave xs → (checked units.noting None text xs).walked.found ≡ None → WellTyped (checked units.noting None text xs)
 texts_are_well_typed text xs has k =
-    let f = checked noted None text xs in
+    let f = checked units.noting None text xs in
     let defined = defined_in text xs no_name in
     let start = nothing_filed None text (objects_in xs) in
     let counted : length f.objects ≡ 0 + objects_in xs = externals_counted defined xs start in

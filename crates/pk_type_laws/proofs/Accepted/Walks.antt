@@ -10,7 +10,9 @@ use Rattle.pk_type_scope.specs.Failures.{is_before, earlier, noted}
 use Rattle.pk_type_expression.specs.Rules.{void, count, failures, used_failures, failures_used}
 use Rattle.pk_type_expression.specs.Typed.{typed, calls, calls_in_all}
 use Rattle.pk_type_expression.proofs.TreeLemmas.{none_before}
-use Rattle.pk_type_declaration.specs.Walks.{StaticsTree, Walked, here, after_value, after_effect, after_values, value_at, effect_at, values_at, failing}
+use Rattle.pk_type_declaration.specs.Walks.{StaticsTree, Walked, here, after_value, after_effect, after_values, value_at, effect_at, values_at}
+use Rattle.pk_type_declaration.specs.Rules as declarations
+use Rattle.pk_type_declaration.specs.Rules.{failing}
 use Rattle.pk_welltyped.specs.Listed.{Numbered, numbered, calls_in, calls_in_effect, calls_in_values}
 use Rattle.pk_welltyped.specs.WellTyped as good
 use Rattle.pk_welltyped.specs.WellTyped.{Around, IsValue, IsEffect, AreValues}
@@ -77,13 +79,13 @@ later w v u a b = record {
 pub later_failing : (fs : List Failure) (w : W) → Later w (failing noted fs w)
 later_failing fs w = record { found = λ h. (none_found w.found fs h).0; more = []; locals = sym (append-nil w.locals); statics = statics_same w.statics }
 
-pub later_value : (e : ExpressionTree) (w : W) → Later w (after_value noted e w)
+pub later_value : (e : ExpressionTree) (w : W) → Later w (after_value declarations.noting e w)
 later_value e w = record { found = λ h. (none_found w.found (used_failures (here w) e) h).0; more = []; locals = sym (append-nil w.locals); statics = statics_same w.statics }
 
-pub later_effect : (e : ExpressionTree) (w : W) → Later w (after_effect noted e w)
+pub later_effect : (e : ExpressionTree) (w : W) → Later w (after_effect declarations.noting e w)
 later_effect e w = record { found = λ h. (none_found w.found (failures (here w) e) h).0; more = []; locals = sym (append-nil w.locals); statics = statics_same w.statics }
 
-pub later_values : (es : ExpressionTrees) (w : W) → Later w (after_values noted es w)
+pub later_values : (es : ExpressionTrees) (w : W) → Later w (after_values declarations.noting es w)
 later_values es w = record { found = λ h. (none_found w.found (failures_used (here w) es) h).0; more = []; locals = sym (append-nil w.locals); statics = statics_same w.statics }
 
 -- these calls are noted between them, and so many objects are declared
@@ -138,21 +140,21 @@ of_values : (a : Around) (w v : W) (cs : List CallSite) (n : ℕ) (o : Option Va
 of_values a w v cs n None c l g = tt
 of_values a w v cs n (Some e) c l g = (g.0, added w v cs (calls_in_values e) c l g.1, g.2)
 
-pub value_part : (a : Around) (w : W) (e : ExpressionTree) → NamesAre a (here w) → HasConstants e → (after_value noted e w).found ≡ None → ValuePart a w (after_value noted e w) (value_at w e)
+pub value_part : (a : Around) (w : W) (e : ExpressionTree) → NamesAre a (here w) → HasConstants e → (after_value declarations.noting e w).found ≡ None → ValuePart a w (after_value declarations.noting e w) (value_at w e)
 value_part a w e n k h =
     let d = here w in
     let f : failures d e ≡ [] = none_before (failures d e) (void d e) (none_found w.found (used_failures d e) h).1 in
-    of_value a w (after_value noted e w) (calls d e) (value_at w e) refl refl
+    of_value a w (after_value declarations.noting e w) (calls d e) (value_at w e) refl refl
     (good_value a (numbered (length w.calls) (calls d e)) (typed d (length w.calls) e) (expressions a d n (length w.calls) e k f))
 
-pub effect_part : (a : Around) (w : W) (e : ExpressionTree) → NamesAre a (here w) → HasConstants e → (after_effect noted e w).found ≡ None → EffectPart a w (after_effect noted e w) (effect_at w e)
+pub effect_part : (a : Around) (w : W) (e : ExpressionTree) → NamesAre a (here w) → HasConstants e → (after_effect declarations.noting e w).found ≡ None → EffectPart a w (after_effect declarations.noting e w) (effect_at w e)
 effect_part a w e n k h =
     let d = here w in
-    of_effect a w (after_effect noted e w) (calls d e) (effect_at w e) refl refl
+    of_effect a w (after_effect declarations.noting e w) (calls d e) (effect_at w e) refl refl
     (good_effect a (numbered (length w.calls) (calls d e)) (typed d (length w.calls) e) (expressions a d n (length w.calls) e k (none_found w.found (failures d e) h).1))
 
-pub values_part : (a : Around) (w : W) (es : ExpressionTrees) → NamesAre a (here w) → HaveConstants es → (after_values noted es w).found ≡ None → ValuesPart a w (after_values noted es w) (count es) (values_at w es)
+pub values_part : (a : Around) (w : W) (es : ExpressionTrees) → NamesAre a (here w) → HaveConstants es → (after_values declarations.noting es w).found ≡ None → ValuesPart a w (after_values declarations.noting es w) (count es) (values_at w es)
 values_part a w es n k h =
     let d = here w in
-    of_values a w (after_values noted es w) (calls_in_all d es) (count es) (values_at w es) refl refl
+    of_values a w (after_values declarations.noting es w) (calls_in_all d es) (count es) (values_at w es) refl refl
     (all_expressions a d n (length w.calls) es k (none_found w.found (failures_used d es) h).1)

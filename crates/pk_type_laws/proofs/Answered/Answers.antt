@@ -7,9 +7,10 @@ use Rattle.pk_ctypes.specs.declared.words.Rule.TheVariants.{Specifiers, Redeclar
 use Rattle.pk_ctypes.specs.Places.{Before}
 use Rattle.pk_ast.specs.Trees.{ExternalTree}
 use Rattle.pk_type_scope.specs.declared.failures.Failure.{Failure}
-use Rattle.pk_type_scope.specs.Failures.{row_of, noted, first_of, Among, IsFirst}
+use Rattle.pk_type_scope.specs.Failures.{row_of, first_of, Among, IsFirst}
 use Rattle.pk_type_scope.proofs.FirstLemmas.{first_is_answered}
 use Rattle.pk_type.specs.Units.{checked, unit_of}
+use Rattle.pk_type.specs.Rules as units
 use Rattle.pk_type_laws.specs.Answered.Answers.{Answer, accepted, refused, IsAnswer, TextsHaveOneAnswer, CheckGivesTheAnswer}
 use Rattle.pk_type_laws.specs.Answered.Failures.{listing, failures_of}
 use Rattle.pk_type_laws.proofs.Answered.Files.{G, checked_first}
@@ -114,10 +115,10 @@ texts_have_one_answer = record {
 }
 
 -- what the walk finds that keeps the first failure alone
-found : (text : List ℕ) (xs : List ExternalTree) → (checked noted None text xs).walked.found ≡ first_of (failures_of text xs)
+found : (text : List ℕ) (xs : List ExternalTree) → (checked units.noting None text xs).walked.found ≡ first_of (failures_of text xs)
 found text xs = ap (λ (f : G). f.walked.found) (checked_first text xs)
 
-gives : (text : List ℕ) (xs : List ExternalTree) (o : Option Failure) → (checked noted None text xs).walked.found ≡ o → Gives text xs o
+gives : (text : List ℕ) (xs : List ExternalTree) (o : Option Failure) → (checked units.noting None text xs).walked.found ≡ o → Gives text xs o
 gives text xs o h = subst (Gives text xs) (sym (found text xs) ∙ h) (first_is_answered (failures_of text xs))
 
 pub check_gives_the_answer : CheckGivesTheAnswer

@@ -13,7 +13,6 @@ use Rattle.pk_type_scope.specs.declared.declarations.Declaration.{Declaration}
 use Rattle.pk_type_scope.specs.declared.declarations.Typing.{Typing}
 use Rattle.pk_type_scope.specs.declared.declarations.Typing.TheVariants.{Void, Integer, Unknown}
 use Rattle.pk_type_scope.specs.Declarations.{Names, HasTypes, is_void, is_unknown}
-use Rattle.pk_type_scope.specs.Failures.{noted}
 use Rattle.pk_type_scope.specs.Scopes.{Scoping, names_in, opened, declaring, key_of}
 use Rattle.pk_type_expression.specs.Laws.{IsTreeOf}
 use Rattle.pk_type_expression.specs.Rules.{void, failures, used_failures, failures_used}
@@ -22,11 +21,13 @@ use Rattle.pk_type_expression.specs.Types.{type_of}
 use Rattle.pk_type_expression.proofs.TreeLemmas.{accepted_expressions_have_trees, none_before, none_after}
 use Rattle.pk_type_declaration.specs.declared.words.Words.{Words}
 use Rattle.pk_type_declaration.specs.Constants.{after_length}
-use Rattle.pk_type_declaration.specs.Declarations.{integer_in, object_at, at_name, braces, misfit, after_initializer, length_at, after_columns, after_dimensions, after_object_name, after_object, after_head, after_declarator, after_declarators, object_tree, declarator_tree_at, declarator_trees_at}
+use Rattle.pk_type_declaration.specs.Declarations.{integer_in, object_at, after_initializer, length_at, after_columns, after_dimensions, after_object_name, after_object, after_head, after_declarator, after_declarators, object_tree, declarator_tree_at, declarator_trees_at}
 use Rattle.pk_type_declaration.specs.Enumerations.{words_at, after_words, word_trees_at}
 use Rattle.pk_type_declaration.specs.Initializers.{braced_values, given}
 use Rattle.pk_type_declaration.specs.Statics.{static_at, after_static_head, after_static, after_statics, after_declaration, declaration_trees_at, after_static_declaration, after_block_declaration, block_declaration_at}
 use Rattle.pk_type_declaration.specs.Walks.{here, after_value, after_effect, value_at, effect_at, values_at}
+use Rattle.pk_type_declaration.specs.Rules as declarations
+use Rattle.pk_type_declaration.specs.Rules.{at_name, braces, misfit}
 use Rattle.pk_type_laws.proofs.Accepted.Declarations.{all_declaring, not_void, later_declarators, found_last, is_used}
 use Rattle.pk_type_laws.proofs.Accepted.Enumerations.{words_names, words_known, holds_types}
 use Rattle.pk_type_laws.proofs.Accepted.Starts.{later_numbers, same_scope}
@@ -71,7 +72,7 @@ effect_there t None h = absurd h
 effect_there t (Some e) h = refl
 
 -- what is known of the type of an expression whose value is used
-pub used_integer : (w : W) (e : ExpressionTree) → Known w.scoping → (after_value noted e w).found ≡ None → (t : IntType) × (type_of (here w) e ≡ Integer t)
+pub used_integer : (w : W) (e : ExpressionTree) → Known w.scoping → (after_value declarations.noting e w).found ≡ None → (t : IntType) × (type_of (here w) e ≡ Integer t)
 used_integer w e k h =
     let d = here w in
     let f : used_failures d e ≡ [] = (none_found w.found (used_failures d e) h).1 in
@@ -86,10 +87,10 @@ used_integer w e k h =
 used_there : (d : Names) (n : ℕ) (e : ExpressionTree) → ((x : Identifier) → HasTypes (d x)) → used_failures d e ≡ [] → is_some (value_of (typed d n e)) ≡ true
 used_there d n e k f = value_there (type_of d e) (typed d n e) (accepted_expressions_have_trees d k n e (none_before (failures d e) (void d e) f)) (is_used d e (none_after (failures d e) (void d e) f))
 
-pub value_is : (w : W) (e : ExpressionTree) → Known w.scoping → (after_value noted e w).found ≡ None → is_some (value_at w e) ≡ true
+pub value_is : (w : W) (e : ExpressionTree) → Known w.scoping → (after_value declarations.noting e w).found ≡ None → is_some (value_at w e) ≡ true
 value_is w e k h = used_there (here w) (length w.calls) e k (none_found w.found (used_failures (here w) e) h).1
 
-pub effect_is : (w : W) (e : ExpressionTree) → Known w.scoping → (after_effect noted e w).found ≡ None → is_some (effect_at w e) ≡ true
+pub effect_is : (w : W) (e : ExpressionTree) → Known w.scoping → (after_effect declarations.noting e w).found ≡ None → is_some (effect_at w e) ≡ true
 effect_is w e k h =
     let d = here w in
     effect_there (type_of d e) (typed d (length w.calls) e) (accepted_expressions_have_trees d k (length w.calls) e (none_found w.found (failures d e) h).1)
@@ -109,29 +110,29 @@ integer_has Void u v = absurd (false≢true (sym v))
 integer_has (Integer t) u v = (t, refl)
 integer_has Unknown u v = absurd (false≢true (sym u))
 
-pub object_known : (words : Words) (b : Bool) (n : Option ℕ) (x : Identifier) (w : W) → is_unknown words.typing ≡ false → Known w.scoping → (after_object noted words b n x w).found ≡ None
-    → Known (after_object noted words b n x w).scoping
+pub object_known : (words : Words) (b : Bool) (n : Option ℕ) (x : Identifier) (w : W) → is_unknown words.typing ≡ false → Known w.scoping → (after_object declarations.noting words b n x w).found ≡ None
+    → Known (after_object declarations.noting words b n x w).scoping
 object_known words b n x w u k h = known_declaring w.scoping x (object_at words b w) k (integer_has words.typing u (not_void words b n x w h))
 
-columns_scope : (at : Pos) (e : Option ExpressionTree) (w : W) → (after_columns noted at e w).scoping ≡ w.scoping
+columns_scope : (at : Pos) (e : Option ExpressionTree) (w : W) → (after_columns declarations.noting at e w).scoping ≡ w.scoping
 columns_scope at None w = refl
 columns_scope at (Some e) w = refl
 
-pub dimensions_scope : (at : Pos) (d : Option DimensionsTree) (w : W) → (after_dimensions noted at d w).scoping ≡ w.scoping
+pub dimensions_scope : (at : Pos) (d : Option DimensionsTree) (w : W) → (after_dimensions declarations.noting at d w).scoping ≡ w.scoping
 dimensions_scope at None w = refl
-dimensions_scope at (Some d) w = columns_scope at d.columns (after_length noted d.length w)
+dimensions_scope at (Some d) w = columns_scope at d.columns (after_length declarations.noting d.length w)
 
-initializer_scope : (i : Option InitializerTree) (w : W) → (after_initializer noted i w).scoping ≡ w.scoping
+initializer_scope : (i : Option InitializerTree) (w : W) → (after_initializer declarations.noting i w).scoping ≡ w.scoping
 initializer_scope None w = refl
 initializer_scope (Some (single e)) w = refl
 initializer_scope (Some (braced at is)) w = refl
 
-initializer_before : (i : Option InitializerTree) (w : W) → (after_initializer noted i w).found ≡ None → w.found ≡ None
+initializer_before : (i : Option InitializerTree) (w : W) → (after_initializer declarations.noting i w).found ≡ None → w.found ≡ None
 initializer_before None w h = h
 initializer_before (Some (single e)) w h = (none_found w.found (used_failures (here w) e) h).0
 initializer_before (Some (braced at is)) w h = (none_found w.found (failures_used (here w) (braced_values is)) h).0
 
-initial_there : (b : Bool) (n : ℕ) (at place : Pos) (i : Option InitializerTree) (w : W) → Known w.scoping → braces b i place ≡ [] → (after_initializer noted i w).found ≡ None
+initial_there : (b : Bool) (n : ℕ) (at place : Pos) (i : Option InitializerTree) (w : W) → Known w.scoping → braces b i place ≡ [] → (after_initializer declarations.noting i w).found ≡ None
     → is_some (object_tree b n at i w) ≡ true
 initial_there true n at place None w k r h = refl
 initial_there true n at place (Some (single e)) w k r h = absurd (cc)
@@ -142,14 +143,14 @@ initial_there false n at place None w k r h = refl
 initial_there false n at place (Some (single e)) w k r h = mapped_there (λ v. tree.scalar_object n at (Some v)) (value_at w e) (value_is w e k h)
 initial_there false n at place (Some (braced o is)) w k r h = absurd (cc)
 
-declarator_there : (words : Words) (d : DeclaratorTree) (w : W) → is_unknown words.typing ≡ false → Known w.scoping → (after_declarator noted words d w).found ≡ None
-    → (is_some (declarator_tree_at noted words d w) ≡ true) × Known (after_declarator noted words d w).scoping
+declarator_there : (words : Words) (d : DeclaratorTree) (w : W) → is_unknown words.typing ≡ false → Known w.scoping → (after_declarator declarations.noting words d w).found ≡ None
+    → (is_some (declarator_tree_at declarations.noting words d w) ≡ true) × Known (after_declarator declarations.noting words d w).scoping
 unfolding after_declarator declarator_tree_at
 declarator_there words d w u k h =
     let n = length_at w d.dimensions in
-    let v = after_dimensions noted d.name.at d.dimensions w in
-    let o = after_object noted words (is_some d.dimensions) n d.name v in
-    let x = after_head noted words d w in
+    let v = after_dimensions declarations.noting d.name.at d.dimensions w in
+    let o = after_object declarations.noting words (is_some d.dimensions) n d.name v in
+    let x = after_head declarations.noting words d w in
     let hx : x.found ≡ None = initializer_before d.initializer x h in
     let rows = none_found o.found (braces (is_some d.dimensions) d.initializer d.name.at ++ misfit n d.initializer) hx in
     let kv : Known v.scoping = subst Known (sym (dimensions_scope d.name.at d.dimensions w)) k in
@@ -158,57 +159,57 @@ declarator_there words d w u k h =
       subst Known (sym (initializer_scope d.initializer x)) kx,
     )
 
-declarators_there : (words : Words) (ds : List DeclaratorTree) (w : W) → is_unknown words.typing ≡ false → Known w.scoping → (after_declarators noted words ds w).found ≡ None
-    → (is_some (declarator_trees_at noted words ds w) ≡ true) × Known (after_declarators noted words ds w).scoping
+declarators_there : (words : Words) (ds : List DeclaratorTree) (w : W) → is_unknown words.typing ≡ false → Known w.scoping → (after_declarators declarations.noting words ds w).found ≡ None
+    → (is_some (declarator_trees_at declarations.noting words ds w) ≡ true) × Known (after_declarators declarations.noting words ds w).scoping
 unfolding after_declarators declarator_trees_at
 declarators_there words [] w u k h = (refl, k)
 declarators_there words (d ∷ ds) w u k h =
-    let v = after_declarator noted words d w in
+    let v = after_declarator declarations.noting words d w in
     let one = declarator_there words d w u k ((later_declarators words ds v).found h) in
     let more = declarators_there words ds v u one.1 h in
-    (both_there (λ t ts. t ∷ ts) (declarator_tree_at noted words d w) (declarator_trees_at noted words ds v) one.0 more.0, more.1)
+    (both_there (λ t ts. t ∷ ts) (declarator_tree_at declarations.noting words d w) (declarator_trees_at declarations.noting words ds v) one.0 more.0, more.1)
 
-pub declaration_there : (d : DeclarationTree) (w : W) → Known w.scoping → (after_declaration noted d w).found ≡ None
-    → (is_some (declaration_trees_at noted d w) ≡ true) × Known (after_declaration noted d w).scoping
+pub declaration_there : (d : DeclarationTree) (w : W) → Known w.scoping → (after_declaration declarations.noting d w).found ≡ None
+    → (is_some (declaration_trees_at declarations.noting d w) ≡ true) × Known (after_declaration declarations.noting d w).scoping
 unfolding after_declaration declaration_trees_at
 declaration_there d w k h =
     let words = words_at (here w) d.specifiers d.enumeration in
-    let v = after_words noted d.specifiers d.enumeration w in
+    let v = after_words declarations.noting d.specifiers d.enumeration w in
     let f : v.found ≡ None = (later_declarators words d.declarators v).found h in
     let all = declarators_there words d.declarators v (words_known d.specifiers d.enumeration w k f) (words_names HasTypes holds_types d.specifiers d.enumeration w k f) h in
-    (mapped_there (λ ts. word_trees_at noted d.specifiers d.enumeration w ++ ts) (declarator_trees_at noted words d.declarators v) all.0, all.1)
+    (mapped_there (λ ts. word_trees_at declarations.noting d.specifiers d.enumeration w ++ ts) (declarator_trees_at declarations.noting words d.declarators v) all.0, all.1)
 
 -- ---- static objects
 
-pub static_known : (words : Words) (d : DeclaratorTree) (w : W) → is_unknown words.typing ≡ false → Known w.scoping → (after_static noted words d w).found ≡ None → Known (after_static noted words d w).scoping
+pub static_known : (words : Words) (d : DeclaratorTree) (w : W) → is_unknown words.typing ≡ false → Known w.scoping → (after_static declarations.noting words d w).found ≡ None → Known (after_static declarations.noting words d w).scoping
 unfolding after_static
 static_known words d w u k h =
-    let v = after_dimensions noted d.name.at d.dimensions w in
+    let v = after_dimensions declarations.noting d.name.at d.dimensions w in
     let o = static_at words (is_some d.dimensions) w in
-    let y = after_object_name noted words.typing o d.name v in
-    let q = after_static_head noted words d w in
+    let y = after_object_name declarations.noting words.typing o d.name v in
+    let q = after_static_head declarations.noting words d w in
     let hq : q.found ≡ None = (later_numbers (given d.initializer) q).found h in
     let hy = none_found y.found (braces (is_some d.dimensions) d.initializer d.name.at ++ misfit (length_at w d.dimensions) d.initializer) hq in
     let void = name_not_void v.scoping words.typing d.name (none_found v.found (at_name v.scoping words.typing d.name) hy.0).1 in
     let kv : Known v.scoping = subst Known (sym (dimensions_scope d.name.at d.dimensions w)) k in
     subst Known (sym (same_scope (given d.initializer) q)) (known_declaring v.scoping d.name o kv (integer_has words.typing u void))
 
-statics_known : (words : Words) (ds : List DeclaratorTree) (w : W) → is_unknown words.typing ≡ false → Known w.scoping → (after_statics noted words ds w).found ≡ None → Known (after_statics noted words ds w).scoping
+statics_known : (words : Words) (ds : List DeclaratorTree) (w : W) → is_unknown words.typing ≡ false → Known w.scoping → (after_statics declarations.noting words ds w).found ≡ None → Known (after_statics declarations.noting words ds w).scoping
 unfolding after_statics
 statics_known words [] w u k h = k
 statics_known words (d ∷ ds) w u k h =
-    let v = after_static noted words d w in
+    let v = after_static declarations.noting words d w in
     statics_known words ds v u (static_known words d w u k ((later_statics words ds v).found h)) h
 
-static_declaration_known : (d : DeclarationTree) (w : W) → Known w.scoping → (after_static_declaration noted d w).found ≡ None → Known (after_static_declaration noted d w).scoping
+static_declaration_known : (d : DeclarationTree) (w : W) → Known w.scoping → (after_static_declaration declarations.noting d w).found ≡ None → Known (after_static_declaration declarations.noting d w).scoping
 unfolding after_static_declaration
 static_declaration_known d w k h =
     let words = words_at (here w) d.specifiers d.enumeration in
-    let v = after_words noted d.specifiers d.enumeration w in
+    let v = after_words declarations.noting d.specifiers d.enumeration w in
     let f : v.found ≡ None = (later_statics words d.declarators v).found h in
     statics_known words d.declarators v (words_known d.specifiers d.enumeration w k f) (words_names HasTypes holds_types d.specifiers d.enumeration w k f) h
 
-pub block_declaration_there : (s : Option Pos) (d : DeclarationTree) (w : W) → Known w.scoping → (after_block_declaration noted s d w).found ≡ None
-    → (is_some (block_declaration_at noted s d w) ≡ true) × Known (after_block_declaration noted s d w).scoping
+pub block_declaration_there : (s : Option Pos) (d : DeclarationTree) (w : W) → Known w.scoping → (after_block_declaration declarations.noting s d w).found ≡ None
+    → (is_some (block_declaration_at declarations.noting s d w) ≡ true) × Known (after_block_declaration declarations.noting s d w).scoping
 block_declaration_there None d w k h = declaration_there d w k h
 block_declaration_there (Some at) d w k h = (refl, static_declaration_known d w k h)

@@ -27,7 +27,9 @@ use Rattle.pk_type_constant.specs.declared.constants.Constant.TheVariants.{Numbe
 use Rattle.pk_type_constant.specs.Forms.{is_constant_form}
 use Rattle.pk_type_declaration.specs.Constants.{given_by, evaluated, is_faulty, is_refused, number_of, number_in, after_constant}
 use Rattle.pk_type_declaration.specs.Statics.{declaration_trees_at, after_block_declaration, block_declaration_at}
-use Rattle.pk_type_declaration.specs.Walks.{here, failing, after_value, value_at, effect_at}
+use Rattle.pk_type_declaration.specs.Walks.{here, after_value, value_at, effect_at}
+use Rattle.pk_type_declaration.specs.Rules as declarations
+use Rattle.pk_type_declaration.specs.Rules.{failing}
 use Rattle.pk_type_jump.specs.declared.labels.Label.{Label}
 use Rattle.pk_type_jump.specs.declared.labels.Within.{Within}
 use Rattle.pk_type_jump.specs.Labels.{Listed, with_label, with_declaration, listed, listed_items}
@@ -35,8 +37,10 @@ use Rattle.pk_type_jump.specs.Labels as label
 use Rattle.pk_type_jump.specs.Jumps as jump
 use Rattle.pk_type_jump.specs.Jumps.{Around, Jumped, misplaced_if, is_out_of_place, with_default_flag, looped, switched, within_next, jumped, jumped_items}
 use Rattle.pk_type_statement.specs.declared.statements.Case.{Case}
-use Rattle.pk_type_statement.specs.Statements.{Passed, on, inside, after, after_items, with_case, with_default, in_switch, after_start, after_optional_value, after_optional_effect, after_head, after_return, returns_otherwise, repeated_cases}
+use Rattle.pk_type_statement.specs.Statements.{Passed, on, inside, after, after_items, with_case, with_default, in_switch, after_start, after_optional_value, after_optional_effect, after_head, after_return}
 use Rattle.pk_type_statement.specs.Trees.{Labels, numbered, label_at, of_three, case_numbers, ended_as, ended, switch_of, optional_value_at, optional_effect_at, start_at, head_at, a_head, for_tree, declared_all, typed, typed_items}
+use Rattle.pk_type_statement.specs.Rules as statements
+use Rattle.pk_type_statement.specs.Rules.{returns_otherwise, repeated_cases}
 use Rattle.pk_type_statement.proofs.KeepLemmas.{kept_block_declaration, kept_head}
 use Rattle.pk_type_laws.proofs.Accepted.Declarations.{or_left}
 use Rattle.pk_type_laws.proofs.Accepted.Forms.{Gives, Numeric, numeric}
@@ -55,50 +59,50 @@ three_there f (Some x) b c h k l = both_there (f x) b c k l
 
 -- ---- parts that may be none
 
-optional_value_there : (e : Option ExpressionTree) (w : W) → Known w.scoping → (after_optional_value noted e w).found ≡ None → is_some (optional_value_at w e) ≡ true
+optional_value_there : (e : Option ExpressionTree) (w : W) → Known w.scoping → (after_optional_value declarations.noting e w).found ≡ None → is_some (optional_value_at w e) ≡ true
 optional_value_there None w k h = refl
 optional_value_there (Some e) w k h = mapped_there Some (value_at w e) (value_is w e k h)
 
-optional_effect_there : (e : Option ExpressionTree) (w : W) → Known w.scoping → (after_optional_effect noted e w).found ≡ None → is_some (optional_effect_at w e) ≡ true
+optional_effect_there : (e : Option ExpressionTree) (w : W) → Known w.scoping → (after_optional_effect declarations.noting e w).found ≡ None → is_some (optional_effect_at w e) ≡ true
 optional_effect_there None w k h = refl
 optional_effect_there (Some e) w k h = mapped_there Some (effect_at w e) (effect_is w e k h)
 
-pub value_before : (e : Option ExpressionTree) (w : W) → (after_optional_value noted e w).found ≡ None → w.found ≡ None
+pub value_before : (e : Option ExpressionTree) (w : W) → (after_optional_value declarations.noting e w).found ≡ None → w.found ≡ None
 value_before None w h = h
 value_before (Some e) w h = (none_found w.found (used_failures (here w) e) h).0
 
-pub effect_before : (e : Option ExpressionTree) (w : W) → (after_optional_effect noted e w).found ≡ None → w.found ≡ None
+pub effect_before : (e : Option ExpressionTree) (w : W) → (after_optional_effect declarations.noting e w).found ≡ None → w.found ≡ None
 effect_before None w h = h
 effect_before (Some e) w h = (none_found w.found (failures (here w) e) h).0
 
-pub value_scope : (e : Option ExpressionTree) (w : W) → (after_optional_value noted e w).scoping ≡ w.scoping
+pub value_scope : (e : Option ExpressionTree) (w : W) → (after_optional_value declarations.noting e w).scoping ≡ w.scoping
 value_scope None w = refl
 value_scope (Some e) w = refl
 
-pub effect_scope : (e : Option ExpressionTree) (w : W) → (after_optional_effect noted e w).scoping ≡ w.scoping
+pub effect_scope : (e : Option ExpressionTree) (w : W) → (after_optional_effect declarations.noting e w).scoping ≡ w.scoping
 effect_scope None w = refl
 effect_scope (Some e) w = refl
 
-return_there : (r : Typing) (at : Pos) (e : Option ExpressionTree) (w : W) → Known w.scoping → (after_return noted r at e w).found ≡ None → is_some (optional_value_at w e) ≡ true
+return_there : (r : Typing) (at : Pos) (e : Option ExpressionTree) (w : W) → Known w.scoping → (after_return statements.noting r at e w).found ≡ None → is_some (optional_value_at w e) ≡ true
 return_there r at None w k h = refl
 return_there r at (Some e) w k h =
     let v = failing noted (fails_if (returns_otherwise r true) rule.Return at) w in
     mapped_there Some (value_at w e) (value_is v e k h)
 
-start_there : (s : ForStartTree) (w : W) → Known w.scoping → (after_start noted s w).found ≡ None → (is_some (start_at noted s w) ≡ true) × Known (after_start noted s w).scoping
-start_there (declaration d) w k h = let one = declaration_there d w k h in (mapped_there tree.declarations (declaration_trees_at noted d w) one.0, one.1)
+start_there : (s : ForStartTree) (w : W) → Known w.scoping → (after_start declarations.noting s w).found ≡ None → (is_some (start_at declarations.noting s w) ≡ true) × Known (after_start declarations.noting s w).scoping
+start_there (declaration d) w k h = let one = declaration_there d w k h in (mapped_there tree.declarations (declaration_trees_at declarations.noting d w) one.0, one.1)
 start_there (expression e) w k h = (mapped_there tree.expression (optional_effect_at w e) (optional_effect_there e w k h), subst Known (sym (effect_scope e w)) k)
 
-pub head_there : (s : ForStartTree) (test step : Option ExpressionTree) (w : W) → Known w.scoping → (after_head noted s test step w).found ≡ None
-    → (is_some (head_at noted s test step w) ≡ true) × Known (after_head noted s test step w).scoping
+pub head_there : (s : ForStartTree) (test step : Option ExpressionTree) (w : W) → Known w.scoping → (after_head declarations.noting s test step w).found ≡ None
+    → (is_some (head_at declarations.noting s test step w) ≡ true) × Known (after_head declarations.noting s test step w).scoping
 head_there s test step w k h =
-    let v = after_start noted s w in
-    let x = after_optional_value noted test v in
+    let v = after_start declarations.noting s w in
+    let x = after_optional_value declarations.noting test v in
     let hx : x.found ≡ None = effect_before step x h in
     let hv : v.found ≡ None = value_before test v hx in
     let one = start_there s w k hv in
     let kx : Known x.scoping = subst Known (sym (value_scope test v)) one.1 in (
-      three_there a_head (start_at noted s w) (optional_value_at v test) (optional_effect_at x step) one.0 (optional_value_there test v one.1 hx) (optional_effect_there step x kx h),
+      three_there a_head (start_at declarations.noting s w) (optional_value_at v test) (optional_effect_at x step) one.0 (optional_value_there test v one.1 hx) (optional_effect_there step x kx h),
       subst Known (sym (effect_scope step x)) kx,
     )
 
@@ -139,9 +143,9 @@ number_given None n h = absurd (false≢true h)
 number_given (Some (value v)) n h = n
 number_given (Some (effect x)) n h = absurd (false≢true h)
 
-case_there : (w : W) (e : ExpressionTree) → Known w.scoping → (after_constant noted e w).found ≡ None → is_some (number_in (evaluated w e)) ≡ true
+case_there : (w : W) (e : ExpressionTree) → Known w.scoping → (after_constant declarations.noting e w).found ≡ None → is_some (number_in (evaluated w e)) ≡ true
 case_there w e k h =
-    let r = none_found (after_value noted e w).found (fails_if (is_refused (evaluated w e)) rule.Constant (first_place_of e)) h in
+    let r = none_found (after_value declarations.noting e w).found (fails_if (is_refused (evaluated w e)) rule.Constant (first_place_of e)) h in
     let is : is_refused (evaluated w e) ≡ false = holds_not _ _ _ r.1 in
     let t = expressions.typed (here w) (length w.calls) e in
     number_there (is_constant_form (here w) e) (given_by (value_of t)) is
@@ -149,10 +153,10 @@ case_there w e k h =
 
 -- ---- a statement declares no name
 
-same_text : (text : List ℕ) (r : Typing) (p : P) (s : StatementTree) → p.walked.scoping.text ≡ text → (after noted r p s).walked.scoping.text ≡ text
+same_text : (text : List ℕ) (r : Typing) (p : P) (s : StatementTree) → p.walked.scoping.text ≡ text → (after statements.noting r p s).walked.scoping.text ≡ text
 same_text text r p s e = ap (λ (c : Scoping). c.text) (same_scope r p s) ∙ e
 
-pub known_after : (r : Typing) (p : P) (s : StatementTree) → Known p.walked.scoping → Known (after noted r p s).walked.scoping
+pub known_after : (r : Typing) (p : P) (s : StatementTree) → Known p.walked.scoping → Known (after statements.noting r p s).walked.scoping
 known_after r p s k = subst Known (sym (same_scope r p s)) k
 
 -- ---- statements
@@ -166,18 +170,18 @@ label_there text ls w x e h = numbered_there (ls (spelled w.scoping.text x)) (su
 
 -- its tree is there, and its cases have their values
 record Done (r : Typing) (ls : Labels) (p : P) (s : StatementTree) : Type 0 where
-  pub there : is_some (typed noted r ls p s) ≡ true
-  pub cases : HaveValues (after noted r p s).cases
+  pub there : is_some (typed statements.noting r ls p s) ≡ true
+  pub cases : HaveValues (after statements.noting r p s).cases
 
 pub record AllDone (r : Typing) (ls : Labels) (p : P) (is : ItemTrees) : Type 0 where
-  pub there : is_some (typed_items noted r ls p is) ≡ true
-  pub cases : HaveValues (after_items noted r p is).cases
+  pub there : is_some (typed_items statements.noting r ls p is) ≡ true
+  pub cases : HaveValues (after_items statements.noting r p is).cases
 
 mutual
   unfolding typed typed_items after after_items jumped jumped_items listed listed_items
 
   statement_there : (text : List ℕ) (r : Typing) (ls : Labels) (a : Around) (j : Jumped) (v : Within) (l : Listed) (p : P) (s : StatementTree) → p.walked.scoping.text ≡ text → Known p.walked.scoping → HaveValues p.cases
-      → Covers (listed text v l s).labels ls → (jumped text ls a j s).unknown ≡ [] → (after noted r p s).walked.found ≡ None → Done r ls p s
+      → Covers (listed text v l s).labels ls → (jumped text ls a j s).unknown ≡ [] → (after statements.noting r p s).walked.found ≡ None → Done r ls p s
   statement_there text r ls a j v l p (ast.block opened items closed) e k c m g h =
       let b = items_there text r ls a j v l (inside p) items e (known_opened p.walked.scoping k) c m g h in record { there = mapped_there (tree.block opened) _ b.there; cases = b.cases }
   statement_there text r ls a j v l p (ast.empty at) e k c m g h = record { there = refl; cases = c }
@@ -185,60 +189,60 @@ mutual
   statement_there text r ls a j v l p (ast.label x s) e k c m g h =
       let b = statement_there text r ls a j v (with_label text v x l) p s e k c m g h in
       let its = label_there text ls p.walked x e (m (spelled text x) (its_label text v x l s)) in
-      record { there = both_there (tree.label x.at) (label_at ls p.walked x) (typed noted r ls p s) its b.there; cases = b.cases }
+      record { there = both_there (tree.label x.at) (label_at ls p.walked x) (typed statements.noting r ls p s) its b.there; cases = b.cases }
   statement_there text r ls a j v l p (ast.case at x s) e k c m g h =
-      let q = with_case noted at x p in
+      let q = with_case declarations.noting at x p in
       let hq : q.walked.found ≡ None = (later_statement r q s).walked.found h in
       let b = statement_there text r ls a (misplaced_if (is_out_of_place a) at j) v l q s e k (one_more p.cases _ c (case_there p.walked x k hq)) m g h in
-      record { there = mapped_there (tree.case at (length p.cases)) (typed noted r ls q s) b.there; cases = b.cases }
+      record { there = mapped_there (tree.case at (length p.cases)) (typed statements.noting r ls q s) b.there; cases = b.cases }
   statement_there text r ls a j v l p (ast.default at s) e k c m g h =
-      let b = statement_there text r ls a (jump.with_default a at j) v l (with_default p) s e k c m g h in record { there = mapped_there (tree.default at) (typed noted r ls (with_default p) s) b.there; cases = b.cases }
+      let b = statement_there text r ls a (jump.with_default a at j) v l (with_default p) s e k c m g h in record { there = mapped_there (tree.default at) (typed statements.noting r ls (with_default p) s) b.there; cases = b.cases }
   statement_there text r ls a j v l p (ast.if_then at x s) e k c m g h =
-      let q = on (after_value noted x) p in
+      let q = on (after_value declarations.noting x) p in
       let b = statement_there text r ls a j v l q s e k c m g h in
-      record { there = both_there (tree.if_then at) (value_at p.walked x) (typed noted r ls q s) (value_is p.walked x k ((later_statement r q s).walked.found h)) b.there; cases = b.cases }
+      record { there = both_there (tree.if_then at) (value_at p.walked x) (typed statements.noting r ls q s) (value_is p.walked x k ((later_statement r q s).walked.found h)) b.there; cases = b.cases }
   statement_there text r ls a j v l p (ast.if_else at x s t) e k c m g h =
-      let q = on (after_value noted x) p in
-      let n = after noted r q s in
+      let q = on (after_value declarations.noting x) p in
+      let n = after statements.noting r q s in
       let hn : n.walked.found ≡ None = (later_statement r n t).walked.found h in
       let b = statement_there text r ls a j v l q s e k c (λ y i. m y (labels_stay text v (listed text v l s) t y i)) (unknown_before text ls a (jumped text ls a j s) t g) hn in
       let d = statement_there text r ls a (jumped text ls a j s) v (listed text v l s) n t (same_text text r q s e) (known_after r q s k) b.cases m g h in
       record {
-        there = three_there (tree.if_else at) (value_at p.walked x) (typed noted r ls q s) (typed noted r ls n t) (value_is p.walked x k ((later_statement r q s).walked.found hn)) b.there d.there;
+        there = three_there (tree.if_else at) (value_at p.walked x) (typed statements.noting r ls q s) (typed statements.noting r ls n t) (value_is p.walked x k ((later_statement r q s).walked.found hn)) b.there d.there;
         cases = d.cases;
       }
   statement_there text r ls a j v l p (ast.switch at x s) e k c m g h =
-      let q = in_switch (on (after_value noted x) p) in
-      let n = after noted r q s in
+      let q = in_switch (on (after_value declarations.noting x) p) in
+      let n = after statements.noting r q s in
       let hn : n.walked.found ≡ None = (none_found n.walked.found (repeated_cases (type_of (here p.walked) x) n.cases) h).0 in
       let hx = (later_statement r q s).walked.found hn in
       let b = statement_there text r ls (switched a) (with_default_flag false j) v l q s e k tt m g hn in
       let t = used_integer p.walked x k hx in
       record {
-        there = three_there (switch_of at) (value_at p.walked x) (ended (type_of (here p.walked) x) n) (typed noted r ls q s) (value_is p.walked x k hx) (ended_there (type_of (here p.walked) x) n t.0 t.1 b.cases) b.there;
+        there = three_there (switch_of at) (value_at p.walked x) (ended (type_of (here p.walked) x) n) (typed statements.noting r ls q s) (value_is p.walked x k hx) (ended_there (type_of (here p.walked) x) n t.0 t.1 b.cases) b.there;
         cases = c;
       }
   statement_there text r ls a j v l p (ast.while at x s) e k c m g h =
-      let q = on (after_value noted x) p in
+      let q = on (after_value declarations.noting x) p in
       let b = statement_there text r ls (looped a) j v l q s e k c m g h in
-      record { there = both_there (tree.while at) (value_at p.walked x) (typed noted r ls q s) (value_is p.walked x k ((later_statement r q s).walked.found h)) b.there; cases = b.cases }
+      record { there = both_there (tree.while at) (value_at p.walked x) (typed statements.noting r ls q s) (value_is p.walked x k ((later_statement r q s).walked.found h)) b.there; cases = b.cases }
   statement_there text r ls a j v l p (ast.do_while at s x) e k c m g h =
-      let n = after noted r p s in
+      let n = after statements.noting r p s in
       let hn : n.walked.found ≡ None = (none_found n.walked.found (used_failures (here n.walked) x) h).0 in
       let b = statement_there text r ls (looped a) j v l p s e k c m g hn in
-      record { there = both_there (tree.do_while at) (typed noted r ls p s) (value_at n.walked x) b.there (value_is n.walked x (known_after r p s k) h); cases = b.cases }
+      record { there = both_there (tree.do_while at) (typed statements.noting r ls p s) (value_at n.walked x) b.there (value_is n.walked x (known_after r p s k) h); cases = b.cases }
   statement_there text r ls a j v l p (ast.for_loop at (declaration d) test step s) e k c m g h =
       let i = inside p in
-      let q = on (after_head noted (declaration d) test step) i in
+      let q = on (after_head declarations.noting (declaration d) test step) i in
       let f = head_there (declaration d) test step i.walked (known_opened p.walked.scoping k) ((later_statement r q s).walked.found h) in
-      let b = statement_there text r ls (looped (within_next j a)) (jump.with_declaration j) (label.inside l.declarations v) (with_declaration l) q s ((kept_head noted (declaration d) test step i.walked).text ∙ e) f.1 c m g h in
-      record { there = both_there (for_tree at) (head_at noted (declaration d) test step i.walked) (typed noted r ls q s) f.0 b.there; cases = b.cases }
+      let b = statement_there text r ls (looped (within_next j a)) (jump.with_declaration j) (label.inside l.declarations v) (with_declaration l) q s ((kept_head declarations.noting (declaration d) test step i.walked).text ∙ e) f.1 c m g h in
+      record { there = both_there (for_tree at) (head_at declarations.noting (declaration d) test step i.walked) (typed statements.noting r ls q s) f.0 b.there; cases = b.cases }
   statement_there text r ls a j v l p (ast.for_loop at (expression x) test step s) e k c m g h =
       let i = inside p in
-      let q = on (after_head noted (expression x) test step) i in
+      let q = on (after_head declarations.noting (expression x) test step) i in
       let f = head_there (expression x) test step i.walked (known_opened p.walked.scoping k) ((later_statement r q s).walked.found h) in
-      let b = statement_there text r ls (looped a) j v l q s ((kept_head noted (expression x) test step i.walked).text ∙ e) f.1 c m g h in
-      record { there = both_there (for_tree at) (head_at noted (expression x) test step i.walked) (typed noted r ls q s) f.0 b.there; cases = b.cases }
+      let b = statement_there text r ls (looped a) j v l q s ((kept_head declarations.noting (expression x) test step i.walked).text ∙ e) f.1 c m g h in
+      record { there = both_there (for_tree at) (head_at declarations.noting (expression x) test step i.walked) (typed statements.noting r ls q s) f.0 b.there; cases = b.cases }
   statement_there text r ls a j v l p (ast.goto at x) e k c m g h =
       record { there = mapped_there (tree.goto at) (label_at ls p.walked x) (label_there text ls p.walked x e (gone_there (ls (spelled text x)) a x.at j g)); cases = c }
   statement_there text r ls a j v l p (ast.continue at) e k c m g h = record { there = refl; cases = c }
@@ -246,15 +250,15 @@ mutual
   statement_there text r ls a j v l p (ast.return at x) e k c m g h = record { there = mapped_there (tree.return at) (optional_value_at p.walked x) (return_there r at x p.walked k h); cases = c }
 
   pub items_there : (text : List ℕ) (r : Typing) (ls : Labels) (a : Around) (j : Jumped) (v : Within) (l : Listed) (p : P) (is : ItemTrees) → p.walked.scoping.text ≡ text → Known p.walked.scoping → HaveValues p.cases
-      → Covers (listed_items text v l is).labels ls → (jumped_items text ls a j is).unknown ≡ [] → (after_items noted r p is).walked.found ≡ None → AllDone r ls p is
+      → Covers (listed_items text v l is).labels ls → (jumped_items text ls a j is).unknown ≡ [] → (after_items statements.noting r p is).walked.found ≡ None → AllDone r ls p is
   items_there text r ls a j v l p no_items e k c m g h = record { there = refl; cases = c }
   items_there text r ls a j v l p (declaration_then x d is) e k c m g h =
-      let q = on (after_block_declaration noted x d) p in
+      let q = on (after_block_declaration declarations.noting x d) p in
       let f = block_declaration_there x d p.walked k ((later_items r q is).walked.found h) in
-      let b = items_there text r ls (within_next j a) (jump.with_declaration j) (label.inside l.declarations v) (with_declaration l) q is ((kept_block_declaration noted x d p.walked).text ∙ e) f.1 c m g h in
-      record { there = both_there declared_all (block_declaration_at noted x d p.walked) (typed_items noted r ls q is) f.0 b.there; cases = b.cases }
+      let b = items_there text r ls (within_next j a) (jump.with_declaration j) (label.inside l.declarations v) (with_declaration l) q is ((kept_block_declaration declarations.noting x d p.walked).text ∙ e) f.1 c m g h in
+      record { there = both_there declared_all (block_declaration_at declarations.noting x d p.walked) (typed_items statements.noting r ls q is) f.0 b.there; cases = b.cases }
   items_there text r ls a j v l p (statement_then s is) e k c m g h =
-      let q = after noted r p s in
+      let q = after statements.noting r p s in
       let b = statement_there text r ls a j v l p s e k c (λ y i. m y (items_stay text v (listed text v l s) is y i)) (items_unknown_before text ls a (jumped text ls a j s) is g) ((later_items r q is).walked.found h) in
       let d = items_there text r ls a (jumped text ls a j s) v (listed text v l s) q is (same_text text r p s e) (known_after r p s k) b.cases m g h in
-      record { there = both_there tree.statement_before (typed noted r ls p s) (typed_items noted r ls q is) b.there d.there; cases = d.cases }
+      record { there = both_there tree.statement_before (typed statements.noting r ls p s) (typed_items statements.noting r ls q is) b.there d.there; cases = d.cases }

@@ -15,13 +15,13 @@ use Rattle.pk_typed.specs.Trees as tree
 use Rattle.pk_typed.specs.Trees.{ValueTree, EffectTree, DeclaredTree}
 use Rattle.pk_type_scope.specs.declared.declarations.Typing.{Typing}
 use Rattle.pk_type_scope.specs.declared.declarations.Typing.TheVariants.{Void, Integer, Unknown}
-use Rattle.pk_type_scope.specs.Failures.{noted}
 use Rattle.pk_type_scope.specs.Scopes.{spelled}
 use Rattle.pk_type_expression.specs.Typed.{of_both}
 use Rattle.pk_type_expression.specs.Types.{type_of}
 use Rattle.pk_type_declaration.specs.Constants.{evaluated, number_in}
 use Rattle.pk_type_declaration.specs.Statics.{after_block_declaration, block_declaration_at}
 use Rattle.pk_type_declaration.specs.Walks.{here, after_value, value_at, effect_at}
+use Rattle.pk_type_declaration.specs.Rules as declarations
 use Rattle.pk_type_jump.specs.declared.labels.Label.{Label}
 use Rattle.pk_type_jump.specs.declared.labels.Within.{Within}
 use Rattle.pk_type_jump.specs.Labels.{Listed, with_label, with_declaration, inside, listed, listed_items}
@@ -31,6 +31,7 @@ use Rattle.pk_type_statement.specs.declared.statements.Case.{Case}
 use Rattle.pk_type_statement.specs.Statements as statements
 use Rattle.pk_type_statement.specs.Statements.{on, with_case, with_default, in_switch, after_head, after, after_items}
 use Rattle.pk_type_statement.specs.Trees.{numbered, label_at, of_three, case_numbers, ended_as, ended, switch_of, optional_value_at, HeadTree, head_at, for_tree, declared_all, typed, typed_items}
+use Rattle.pk_type_statement.specs.Rules as statement_rules
 use Rattle.pk_type_statement.proofs.KeepLemmas.{kept, kept_block_declaration, kept_head}
 use Rattle.pk_meaning.specs.Steps as mark
 use Rattle.pk_meaning.specs.Steps.{Mark, labelled, otherwise}
@@ -49,30 +50,30 @@ gone_flag (Some l) a at j h = h
 mutual
   unfolding after after_items jumped jumped_items
 
-  flags : (r : Typing) (text : List ℕ) (ls : List ℕ → Option Label) (a : Around) (j : Jumped) (p : P) (s : StatementTree) → p.has_default ≡ j.has_default → (after noted r p s).has_default ≡ (jumped text ls a j s).has_default
+  flags : (r : Typing) (text : List ℕ) (ls : List ℕ → Option Label) (a : Around) (j : Jumped) (p : P) (s : StatementTree) → p.has_default ≡ j.has_default → (after statement_rules.noting r p s).has_default ≡ (jumped text ls a j s).has_default
   flags r text ls a j p (ast.block opened items closed) h = item_flags r text ls a j (statements.inside p) items h
   flags r text ls a j p (ast.empty at) h = h
   flags r text ls a j p (ast.expression_statement e) h = h
   flags r text ls a j p (ast.label x s) h = flags r text ls a j p s h
-  flags r text ls a j p (ast.case at e s) h = flags r text ls a (misplaced_if (is_out_of_place a) at j) (with_case noted at e p) s h
+  flags r text ls a j p (ast.case at e s) h = flags r text ls a (misplaced_if (is_out_of_place a) at j) (with_case declarations.noting at e p) s h
   flags r text ls a j p (ast.default at s) h = flags r text ls a (jump.with_default a at j) (with_default p) s refl
-  flags r text ls a j p (ast.if_then at e s) h = flags r text ls a j (on (after_value noted e) p) s h
+  flags r text ls a j p (ast.if_then at e s) h = flags r text ls a j (on (after_value declarations.noting e) p) s h
   flags r text ls a j p (ast.if_else at e s t) h =
-      let q = on (after_value noted e) p in flags r text ls a (jumped text ls a j s) (after noted r q s) t (flags r text ls a j q s h)
+      let q = on (after_value declarations.noting e) p in flags r text ls a (jumped text ls a j s) (after statement_rules.noting r q s) t (flags r text ls a j q s h)
   flags r text ls a j p (ast.switch at e s) h = h
-  flags r text ls a j p (ast.while at e s) h = flags r text ls (looped a) j (on (after_value noted e) p) s h
+  flags r text ls a j p (ast.while at e s) h = flags r text ls (looped a) j (on (after_value declarations.noting e) p) s h
   flags r text ls a j p (ast.do_while at s e) h = flags r text ls (looped a) j p s h
-  flags r text ls a j p (ast.for_loop at (declaration d) test step s) h = flags r text ls (looped (within_next j a)) (jump.with_declaration j) (on (after_head noted (declaration d) test step) (statements.inside p)) s h
-  flags r text ls a j p (ast.for_loop at (expression e) test step s) h = flags r text ls (looped a) j (on (after_head noted (expression e) test step) (statements.inside p)) s h
+  flags r text ls a j p (ast.for_loop at (declaration d) test step s) h = flags r text ls (looped (within_next j a)) (jump.with_declaration j) (on (after_head declarations.noting (declaration d) test step) (statements.inside p)) s h
+  flags r text ls a j p (ast.for_loop at (expression e) test step s) h = flags r text ls (looped a) j (on (after_head declarations.noting (expression e) test step) (statements.inside p)) s h
   flags r text ls a j p (ast.goto at x) h = gone_flag (ls (spelled text x)) a x.at j h
   flags r text ls a j p (ast.continue at) h = h
   flags r text ls a j p (ast.break at) h = h
   flags r text ls a j p (ast.return at e) h = h
 
-  item_flags : (r : Typing) (text : List ℕ) (ls : List ℕ → Option Label) (a : Around) (j : Jumped) (p : P) (is : ItemTrees) → p.has_default ≡ j.has_default → (after_items noted r p is).has_default ≡ (jumped_items text ls a j is).has_default
+  item_flags : (r : Typing) (text : List ℕ) (ls : List ℕ → Option Label) (a : Around) (j : Jumped) (p : P) (is : ItemTrees) → p.has_default ≡ j.has_default → (after_items statement_rules.noting r p is).has_default ≡ (jumped_items text ls a j is).has_default
   item_flags r text ls a j p no_items h = h
-  item_flags r text ls a j p (declaration_then x d is) h = item_flags r text ls (within_next j a) (jump.with_declaration j) (on (after_block_declaration noted x d) p) is h
-  item_flags r text ls a j p (statement_then s is) h = item_flags r text ls a (jumped text ls a j s) (after noted r p s) is (flags r text ls a j p s h)
+  item_flags r text ls a j p (declaration_then x d is) h = item_flags r text ls (within_next j a) (jump.with_declaration j) (on (after_block_declaration declarations.noting x d) p) is h
+  item_flags r text ls a j p (statement_then s is) h = item_flags r text ls a (jumped text ls a j s) (after statement_rules.noting r p s) is (flags r text ls a j p s h)
 
 -- ---- what holds of a statement's tree
 
@@ -269,61 +270,61 @@ mutual
 
   walk : (text : List ℕ) (f : List ℕ → Option Label) (r : Typing) (a : Around) (j : Jumped) (w : Within) (l : Listed) (p : P) (s : StatementTree) → p.walked.scoping.text ≡ text → (listed text w l s).repeated ≡ [] → Final f (listed text w l s)
       → p.has_default ≡ j.has_default → (jumped text f a j s).misplaced ≡ []
-      → MarkedIf l.count (listed text w l s).count (length p.cases) (length (after noted r p s).cases) p.has_default (after noted r p s).has_default (typed noted r f p s)
+      → MarkedIf l.count (listed text w l s).count (length p.cases) (length (after statement_rules.noting r p s).cases) p.has_default (after statement_rules.noting r p s).has_default (typed statement_rules.noting r f p s)
   walk text f r a j w l p (ast.block opened items closed) t e h d k =
-      block_marked l.count (listed_items text w l items).count (length p.cases) (length (after_items noted r (statements.inside p) items).cases) p.has_default (after_items noted r (statements.inside p) items).has_default opened
-      (typed_items noted r f (statements.inside p) items) (walk_items text f r a j w l (statements.inside p) items t e h d k)
+      block_marked l.count (listed_items text w l items).count (length p.cases) (length (after_items statement_rules.noting r (statements.inside p) items).cases) p.has_default (after_items statement_rules.noting r (statements.inside p) items).has_default opened
+      (typed_items statement_rules.noting r f (statements.inside p) items) (walk_items text f r a j w l (statements.inside p) items t e h d k)
   walk text f r a j w l p (ast.empty at) t e h d k = no_marks l.count (length p.cases) p.has_default (tree.empty at) (λ m. refl) tt
   walk text f r a j w l p (ast.expression_statement x) t e h d k = effect_marked l.count (length p.cases) p.has_default (first_place_of x) (effect_at p.walked x)
   walk text f r a j w l p (ast.label x s) t e h d k =
       let m = with_label text w x l in
       let its : f (spelled p.walked.scoping.text x) ≡ Some (record { number = l.count; within = w }) = ap (λ (q : List ℕ). f (spelled q x)) t ∙ h (spelled text x) _ ((stays text w m s).keeps e (spelled text x) _ (its_label text w x l)) in
-      label_marked l.count (listed text w m s).count (length p.cases) (length (after noted r p s).cases) p.has_default (after noted r p s).has_default x.at (f (spelled p.walked.scoping.text x)) w (typed noted r f p s) its
+      label_marked l.count (listed text w m s).count (length p.cases) (length (after statement_rules.noting r p s).cases) p.has_default (after statement_rules.noting r p s).has_default x.at (f (spelled p.walked.scoping.text x)) w (typed statement_rules.noting r f p s) its
       (walk text f r a j w m p s t e h d k)
   walk text f r a j w l p (ast.case at x s) t e h d k =
-      let q = with_case noted at x p in
+      let q = with_case declarations.noting at x p in
       let many : length q.cases ≡ length p.cases + 1 = length-append p.cases (record { at = at; value = number_in (evaluated p.walked x) } ∷ []) in
-      case_marked l.count (listed text w l s).count (length p.cases) (length (after noted r q s).cases) p.has_default (after noted r q s).has_default at (typed noted r f q s)
-      (subst (λ (c : ℕ). MarkedIf l.count (listed text w l s).count c (length (after noted r q s).cases) p.has_default (after noted r q s).has_default (typed noted r f q s)) many
+      case_marked l.count (listed text w l s).count (length p.cases) (length (after statement_rules.noting r q s).cases) p.has_default (after statement_rules.noting r q s).has_default at (typed statement_rules.noting r f q s)
+      (subst (λ (c : ℕ). MarkedIf l.count (listed text w l s).count c (length (after statement_rules.noting r q s).cases) p.has_default (after statement_rules.noting r q s).has_default (typed statement_rules.noting r f q s)) many
       (walk text f r a (misplaced_if (is_out_of_place a) at j) w l q s t e h d k))
   walk text f r a j w l p (ast.default at s) t e h d k =
       let q = with_default p in
       let placed = none_after j.misplaced (at_if (is_out_of_place a || j.has_default) at) (before text f a (jump.with_default a at j) s k) in
-      default_marked l.count (listed text w l s).count (length p.cases) (length (after noted r q s).cases) p.has_default (after noted r q s).has_default at (typed noted r f q s)
+      default_marked l.count (listed text w l s).count (length p.cases) (length (after statement_rules.noting r q s).cases) p.has_default (after statement_rules.noting r q s).has_default at (typed statement_rules.noting r f q s)
       (d ∙ or_second (is_out_of_place a) j.has_default (not_at (is_out_of_place a || j.has_default) at placed)) (walk text f r a (jump.with_default a at j) w l q s t e h refl k)
   walk text f r a j w l p (ast.if_then at x s) t e h d k =
-      let q = on (after_value noted x) p in
-      then_marked l.count (listed text w l s).count (length p.cases) (length (after noted r q s).cases) p.has_default (after noted r q s).has_default at (value_at p.walked x) (typed noted r f q s) (walk text f r a j w l q s t e h d k)
+      let q = on (after_value declarations.noting x) p in
+      then_marked l.count (listed text w l s).count (length p.cases) (length (after statement_rules.noting r q s).cases) p.has_default (after statement_rules.noting r q s).has_default at (value_at p.walked x) (typed statement_rules.noting r f q s) (walk text f r a j w l q s t e h d k)
   walk text f r a j w l p (ast.if_else at x s o) t e h d k =
-      let q = on (after_value noted x) p in
-      let v = after noted r q s in
+      let q = on (after_value declarations.noting x) p in
+      let v = after statement_rules.noting r q s in
       let m = listed text w l s in
       let i = jumped text f a j s in
       let rest = stays text w m o in
-      else_marked l.count m.count (listed text w m o).count (length p.cases) (length v.cases) (length (after noted r v o).cases) p.has_default v.has_default (after noted r v o).has_default at (value_at p.walked x) (typed noted r f q s) (typed noted r f v o)
+      else_marked l.count m.count (listed text w m o).count (length p.cases) (length v.cases) (length (after statement_rules.noting r v o).cases) p.has_default v.has_default (after statement_rules.noting r v o).has_default at (value_at p.walked x) (typed statement_rules.noting r f q s) (typed statement_rules.noting r f v o)
       (walk text f r a j w l q s t (rest.repeated e) (final_before f m (listed text w m o) rest e h) d (before text f a i o k))
-      (walk text f r a i w m v o ((kept noted r q s).text ∙ t) e h (flags r text f a j q s d) k)
+      (walk text f r a i w m v o ((kept statement_rules.noting r q s).text ∙ t) e h (flags r text f a j q s d) k)
   walk text f r a j w l p (ast.switch at x s) t e h d k =
-      let q = in_switch (on (after_value noted x) p) in
-      let v = after noted r q s in
-      switch_marked l.count (listed text w l s).count (length p.cases) p.has_default at (value_at p.walked x) (type_of (here p.walked) x) v (typed noted r f q s) (walk text f r (switched a) (with_default_flag false j) w l q s t e h refl k)
+      let q = in_switch (on (after_value declarations.noting x) p) in
+      let v = after statement_rules.noting r q s in
+      switch_marked l.count (listed text w l s).count (length p.cases) p.has_default at (value_at p.walked x) (type_of (here p.walked) x) v (typed statement_rules.noting r f q s) (walk text f r (switched a) (with_default_flag false j) w l q s t e h refl k)
   walk text f r a j w l p (ast.while at x s) t e h d k =
-      let q = on (after_value noted x) p in
-      while_marked l.count (listed text w l s).count (length p.cases) (length (after noted r q s).cases) p.has_default (after noted r q s).has_default at (value_at p.walked x) (typed noted r f q s) (walk text f r (looped a) j w l q s t e h d k)
+      let q = on (after_value declarations.noting x) p in
+      while_marked l.count (listed text w l s).count (length p.cases) (length (after statement_rules.noting r q s).cases) p.has_default (after statement_rules.noting r q s).has_default at (value_at p.walked x) (typed statement_rules.noting r f q s) (walk text f r (looped a) j w l q s t e h d k)
   walk text f r a j w l p (ast.do_while at s x) t e h d k =
-      do_marked l.count (listed text w l s).count (length p.cases) (length (after noted r p s).cases) p.has_default (after noted r p s).has_default at (typed noted r f p s) (value_at (after noted r p s).walked x) (walk text f r (looped a) j w l p s t e h d k)
+      do_marked l.count (listed text w l s).count (length p.cases) (length (after statement_rules.noting r p s).cases) p.has_default (after statement_rules.noting r p s).has_default at (typed statement_rules.noting r f p s) (value_at (after statement_rules.noting r p s).walked x) (walk text f r (looped a) j w l p s t e h d k)
   walk text f r a j w l p (ast.for_loop at (declaration x) test third s) t e h d k =
       let i = statements.inside p in
-      let q = on (after_head noted (declaration x) test third) i in
+      let q = on (after_head declarations.noting (declaration x) test third) i in
       let v = inside l.declarations w in
       let m = with_declaration l in
-      for_marked l.count (listed text v m s).count (length p.cases) (length (after noted r q s).cases) p.has_default (after noted r q s).has_default at (head_at noted (declaration x) test third i.walked) (typed noted r f q s)
-      (walk text f r (looped (within_next j a)) (jump.with_declaration j) v m q s ((kept_head noted (declaration x) test third i.walked).text ∙ t) e h d k)
+      for_marked l.count (listed text v m s).count (length p.cases) (length (after statement_rules.noting r q s).cases) p.has_default (after statement_rules.noting r q s).has_default at (head_at declarations.noting (declaration x) test third i.walked) (typed statement_rules.noting r f q s)
+      (walk text f r (looped (within_next j a)) (jump.with_declaration j) v m q s ((kept_head declarations.noting (declaration x) test third i.walked).text ∙ t) e h d k)
   walk text f r a j w l p (ast.for_loop at (expression x) test third s) t e h d k =
       let i = statements.inside p in
-      let q = on (after_head noted (expression x) test third) i in
-      for_marked l.count (listed text w l s).count (length p.cases) (length (after noted r q s).cases) p.has_default (after noted r q s).has_default at (head_at noted (expression x) test third i.walked) (typed noted r f q s)
-      (walk text f r (looped a) j w l q s ((kept_head noted (expression x) test third i.walked).text ∙ t) e h d k)
+      let q = on (after_head declarations.noting (expression x) test third) i in
+      for_marked l.count (listed text w l s).count (length p.cases) (length (after statement_rules.noting r q s).cases) p.has_default (after statement_rules.noting r q s).has_default at (head_at declarations.noting (expression x) test third i.walked) (typed statement_rules.noting r f q s)
+      (walk text f r (looped a) j w l q s ((kept_head declarations.noting (expression x) test third i.walked).text ∙ t) e h d k)
   walk text f r a j w l p (ast.goto at x) t e h d k = goto_marked l.count (length p.cases) p.has_default at (label_at f p.walked x)
   walk text f r a j w l p (ast.continue at) t e h d k = no_marks l.count (length p.cases) p.has_default (tree.continue at) (λ m. refl) tt
   walk text f r a j w l p (ast.break at) t e h d k = no_marks l.count (length p.cases) p.has_default (tree.break at) (λ m. refl) tt
@@ -331,19 +332,19 @@ mutual
 
   pub walk_items : (text : List ℕ) (f : List ℕ → Option Label) (r : Typing) (a : Around) (j : Jumped) (w : Within) (l : Listed) (p : P) (is : ItemTrees) → p.walked.scoping.text ≡ text → (listed_items text w l is).repeated ≡ [] → Final f (listed_items text w l is)
       → p.has_default ≡ j.has_default → (jumped_items text f a j is).misplaced ≡ []
-      → ItemsMarkedIf l.count (listed_items text w l is).count (length p.cases) (length (after_items noted r p is).cases) p.has_default (after_items noted r p is).has_default (typed_items noted r f p is)
+      → ItemsMarkedIf l.count (listed_items text w l is).count (length p.cases) (length (after_items statement_rules.noting r p is).cases) p.has_default (after_items statement_rules.noting r p is).has_default (typed_items statement_rules.noting r f p is)
   walk_items text f r a j w l p no_items t e h d k = nothing_marked l.count (length p.cases) p.has_default
   walk_items text f r a j w l p (declaration_then z x is) t e h d k =
-      let q = on (after_block_declaration noted z x) p in
+      let q = on (after_block_declaration declarations.noting z x) p in
       let v = inside l.declarations w in
       let m = with_declaration l in
-      declared_marked l.count (listed_items text v m is).count (length p.cases) (length (after_items noted r q is).cases) p.has_default (after_items noted r q is).has_default (block_declaration_at noted z x p.walked) (typed_items noted r f q is)
-      (walk_items text f r (within_next j a) (jump.with_declaration j) v m q is ((kept_block_declaration noted z x p.walked).text ∙ t) e h d k)
+      declared_marked l.count (listed_items text v m is).count (length p.cases) (length (after_items statement_rules.noting r q is).cases) p.has_default (after_items statement_rules.noting r q is).has_default (block_declaration_at declarations.noting z x p.walked) (typed_items statement_rules.noting r f q is)
+      (walk_items text f r (within_next j a) (jump.with_declaration j) v m q is ((kept_block_declaration declarations.noting z x p.walked).text ∙ t) e h d k)
   walk_items text f r a j w l p (statement_then s is) t e h d k =
-      let q = after noted r p s in
+      let q = after statement_rules.noting r p s in
       let m = listed text w l s in
       let i = jumped text f a j s in
       let rest = items_stay text w m is in
-      items_marked l.count m.count (listed_items text w m is).count (length p.cases) (length q.cases) (length (after_items noted r q is).cases) p.has_default q.has_default (after_items noted r q is).has_default (typed noted r f p s) (typed_items noted r f q is)
+      items_marked l.count m.count (listed_items text w m is).count (length p.cases) (length q.cases) (length (after_items statement_rules.noting r q is).cases) p.has_default q.has_default (after_items statement_rules.noting r q is).has_default (typed statement_rules.noting r f p s) (typed_items statement_rules.noting r f q is)
       (walk text f r a j w l p s t (rest.repeated e) (final_before f m (listed_items text w m is) rest e h) d (items_before text f a i is k))
-      (walk_items text f r a i w m q is ((kept noted r p s).text ∙ t) e h (flags r text f a j p s d) k)
+      (walk_items text f r a i w m q is ((kept statement_rules.noting r p s).text ∙ t) e h (flags r text f a j p s d) k)

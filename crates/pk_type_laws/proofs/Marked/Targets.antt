@@ -12,18 +12,19 @@ use Rattle.pk_typed.specs.Trees as tree
 use Rattle.pk_typed.specs.Trees.{ValueTree, EffectTree, DeclaredTree}
 use Rattle.pk_type_scope.specs.declared.declarations.Typing.{Typing}
 use Rattle.pk_type_scope.specs.declared.declarations.Typing.TheVariants.{Void, Integer, Unknown}
-use Rattle.pk_type_scope.specs.Failures.{noted}
 use Rattle.pk_type_scope.specs.Scopes.{spelled}
 use Rattle.pk_type_expression.specs.Typed.{of_both}
 use Rattle.pk_type_expression.specs.Types.{type_of}
 use Rattle.pk_type_declaration.specs.Statics.{after_block_declaration, block_declaration_at}
 use Rattle.pk_type_declaration.specs.Walks.{here, after_value, value_at, effect_at}
+use Rattle.pk_type_declaration.specs.Rules as declarations
 use Rattle.pk_type_jump.specs.declared.labels.Label.{Label}
 use Rattle.pk_type_jump.specs.Jumps as jump
 use Rattle.pk_type_jump.specs.Jumps.{Around, Jumped, misplaced_if, is_out_of_place, with_default_flag, looped, switched, within_next, jumped, jumped_items}
 use Rattle.pk_type_statement.specs.Statements as statements
 use Rattle.pk_type_statement.specs.Statements.{on, with_case, with_default, in_switch, after_head, after, after_items}
 use Rattle.pk_type_statement.specs.Trees.{numbered, label_at, of_three, case_numbers, ended_as, ended, switch_of, optional_value_at, HeadTree, head_at, for_tree, declared_all, typed, typed_items}
+use Rattle.pk_type_statement.specs.Rules as statement_rules
 use Rattle.pk_welltyped.specs.Marks.{HasTargets, HaveTargets}
 use Rattle.pk_type_laws.proofs.Accepted.Jumps.{before, items_before, none_after}
 use Rattle.pk_type_laws.proofs.Accepted.Statements.{P}
@@ -159,49 +160,49 @@ is_placed false at j h = absurd (one (none_after j.misplaced (at ∷ []) h)) whe
 mutual
   unfolding after after_items typed typed_items jumped jumped_items HasTargets HaveTargets
 
-  reaches : (text : List ℕ) (f : List ℕ → Option Label) (r : Typing) (a : Around) (j : Jumped) (p : P) (s : StatementTree) → (jumped text f a j s).misplaced ≡ [] → TargetsIf (breaks a) a.in_loop (typed noted r f p s)
-  reaches text f r a j p (ast.block opened items closed) k = block_reaches (breaks a) a.in_loop opened (typed_items noted r f (statements.inside p) items) (reaches_all text f r a j (statements.inside p) items k)
+  reaches : (text : List ℕ) (f : List ℕ → Option Label) (r : Typing) (a : Around) (j : Jumped) (p : P) (s : StatementTree) → (jumped text f a j s).misplaced ≡ [] → TargetsIf (breaks a) a.in_loop (typed statement_rules.noting r f p s)
+  reaches text f r a j p (ast.block opened items closed) k = block_reaches (breaks a) a.in_loop opened (typed_items statement_rules.noting r f (statements.inside p) items) (reaches_all text f r a j (statements.inside p) items k)
   reaches text f r a j p (ast.empty at) k = tt
   reaches text f r a j p (ast.expression_statement x) k = effect_reaches (breaks a) a.in_loop (first_place_of x) (effect_at p.walked x)
-  reaches text f r a j p (ast.label x s) k = label_reaches (breaks a) a.in_loop x.at (f (spelled p.walked.scoping.text x)) (typed noted r f p s) (reaches text f r a j p s k)
+  reaches text f r a j p (ast.label x s) k = label_reaches (breaks a) a.in_loop x.at (f (spelled p.walked.scoping.text x)) (typed statement_rules.noting r f p s) (reaches text f r a j p s k)
   reaches text f r a j p (ast.case at x s) k =
-      let q = with_case noted at x p in case_reaches (breaks a) a.in_loop at _ (typed noted r f q s) (reaches text f r a (misplaced_if (is_out_of_place a) at j) q s k)
+      let q = with_case declarations.noting at x p in case_reaches (breaks a) a.in_loop at _ (typed statement_rules.noting r f q s) (reaches text f r a (misplaced_if (is_out_of_place a) at j) q s k)
   reaches text f r a j p (ast.default at s) k =
-      let q = with_default p in default_reaches (breaks a) a.in_loop at (typed noted r f q s) (reaches text f r a (jump.with_default a at j) q s k)
+      let q = with_default p in default_reaches (breaks a) a.in_loop at (typed statement_rules.noting r f q s) (reaches text f r a (jump.with_default a at j) q s k)
   reaches text f r a j p (ast.if_then at x s) k =
-      let q = on (after_value noted x) p in then_reaches (breaks a) a.in_loop at (value_at p.walked x) (typed noted r f q s) (reaches text f r a j q s k)
+      let q = on (after_value declarations.noting x) p in then_reaches (breaks a) a.in_loop at (value_at p.walked x) (typed statement_rules.noting r f q s) (reaches text f r a j q s k)
   reaches text f r a j p (ast.if_else at x s o) k =
-      let q = on (after_value noted x) p in
-      let v = after noted r q s in
+      let q = on (after_value declarations.noting x) p in
+      let v = after statement_rules.noting r q s in
       let i = jumped text f a j s in
-      else_reaches (breaks a) a.in_loop at (value_at p.walked x) (typed noted r f q s) (typed noted r f v o) (reaches text f r a j q s (before text f a i o k)) (reaches text f r a i v o k)
+      else_reaches (breaks a) a.in_loop at (value_at p.walked x) (typed statement_rules.noting r f q s) (typed statement_rules.noting r f v o) (reaches text f r a j q s (before text f a i o k)) (reaches text f r a i v o k)
   reaches text f r a j p (ast.switch at x s) k =
-      let q = in_switch (on (after_value noted x) p) in
-      let v = after noted r q s in
-      switch_reaches (breaks a) a.in_loop at (value_at p.walked x) (type_of (here p.walked) x) v (typed noted r f q s)
-      (subst (λ b. TargetsIf b a.in_loop (typed noted r f q s)) (or_true a.in_loop) (reaches text f r (switched a) (with_default_flag false j) q s k))
+      let q = in_switch (on (after_value declarations.noting x) p) in
+      let v = after statement_rules.noting r q s in
+      switch_reaches (breaks a) a.in_loop at (value_at p.walked x) (type_of (here p.walked) x) v (typed statement_rules.noting r f q s)
+      (subst (λ b. TargetsIf b a.in_loop (typed statement_rules.noting r f q s)) (or_true a.in_loop) (reaches text f r (switched a) (with_default_flag false j) q s k))
   reaches text f r a j p (ast.while at x s) k =
-      let q = on (after_value noted x) p in while_reaches (breaks a) a.in_loop at (value_at p.walked x) (typed noted r f q s) (reaches text f r (looped a) j q s k)
-  reaches text f r a j p (ast.do_while at s x) k = do_reaches (breaks a) a.in_loop at (typed noted r f p s) (value_at (after noted r p s).walked x) (reaches text f r (looped a) j p s k)
+      let q = on (after_value declarations.noting x) p in while_reaches (breaks a) a.in_loop at (value_at p.walked x) (typed statement_rules.noting r f q s) (reaches text f r (looped a) j q s k)
+  reaches text f r a j p (ast.do_while at s x) k = do_reaches (breaks a) a.in_loop at (typed statement_rules.noting r f p s) (value_at (after statement_rules.noting r p s).walked x) (reaches text f r (looped a) j p s k)
   reaches text f r a j p (ast.for_loop at (declaration x) test third s) k =
       let i = statements.inside p in
-      let q = on (after_head noted (declaration x) test third) i in
-      for_reaches (breaks a) a.in_loop at (head_at noted (declaration x) test third i.walked) (typed noted r f q s) (reaches text f r (looped (within_next j a)) (jump.with_declaration j) q s k)
+      let q = on (after_head declarations.noting (declaration x) test third) i in
+      for_reaches (breaks a) a.in_loop at (head_at declarations.noting (declaration x) test third i.walked) (typed statement_rules.noting r f q s) (reaches text f r (looped (within_next j a)) (jump.with_declaration j) q s k)
   reaches text f r a j p (ast.for_loop at (expression x) test third s) k =
       let i = statements.inside p in
-      let q = on (after_head noted (expression x) test third) i in
-      for_reaches (breaks a) a.in_loop at (head_at noted (expression x) test third i.walked) (typed noted r f q s) (reaches text f r (looped a) j q s k)
+      let q = on (after_head declarations.noting (expression x) test third) i in
+      for_reaches (breaks a) a.in_loop at (head_at declarations.noting (expression x) test third i.walked) (typed statement_rules.noting r f q s) (reaches text f r (looped a) j q s k)
   reaches text f r a j p (ast.goto at x) k = goto_reaches (breaks a) a.in_loop at (label_at f p.walked x)
   reaches text f r a j p (ast.continue at) k = is_placed a.in_loop at j k
   reaches text f r a j p (ast.break at) k = is_placed (breaks a) at j k
   reaches text f r a j p (ast.return at x) k = return_reaches (breaks a) a.in_loop at (optional_value_at p.walked x)
 
-  pub reaches_all : (text : List ℕ) (f : List ℕ → Option Label) (r : Typing) (a : Around) (j : Jumped) (p : P) (is : ItemTrees) → (jumped_items text f a j is).misplaced ≡ [] → ItemTargetsIf (breaks a) a.in_loop (typed_items noted r f p is)
+  pub reaches_all : (text : List ℕ) (f : List ℕ → Option Label) (r : Typing) (a : Around) (j : Jumped) (p : P) (is : ItemTrees) → (jumped_items text f a j is).misplaced ≡ [] → ItemTargetsIf (breaks a) a.in_loop (typed_items statement_rules.noting r f p is)
   reaches_all text f r a j p no_items k = nothing_reaches (breaks a) a.in_loop
   reaches_all text f r a j p (declaration_then z x is) k =
-      let q = on (after_block_declaration noted z x) p in
-      declared_reach (breaks a) a.in_loop (block_declaration_at noted z x p.walked) (typed_items noted r f q is) (reaches_all text f r (within_next j a) (jump.with_declaration j) q is k)
+      let q = on (after_block_declaration declarations.noting z x) p in
+      declared_reach (breaks a) a.in_loop (block_declaration_at declarations.noting z x p.walked) (typed_items statement_rules.noting r f q is) (reaches_all text f r (within_next j a) (jump.with_declaration j) q is k)
   reaches_all text f r a j p (statement_then s is) k =
-      let q = after noted r p s in
+      let q = after statement_rules.noting r p s in
       let i = jumped text f a j s in
-      items_reach (breaks a) a.in_loop (typed noted r f p s) (typed_items noted r f q is) (reaches text f r a j p s (items_before text f a i is k)) (reaches_all text f r a i q is k)
+      items_reach (breaks a) a.in_loop (typed statement_rules.noting r f p s) (typed_items statement_rules.noting r f q is) (reaches text f r a j p s (items_before text f a i is k)) (reaches_all text f r a i q is k)

@@ -3,8 +3,9 @@ use Rattle.std.specs.Prelude.{◌≡◌, ℕ, List, [], Some, None}
 use Rattle.pk_ast.specs.Trees.{ExternalTree}
 use Rattle.pk_typed.specs.Trees.{UnitTree}
 use Rattle.pk_type_scope.specs.declared.failures.Failure.{Failure}
-use Rattle.pk_type_scope.specs.Failures.{IsFirst, noted}
+use Rattle.pk_type_scope.specs.Failures.{IsFirst}
 use Rattle.pk_type.specs.Units.{checked, unit_of}
+use Rattle.pk_type.specs.Rules as units
 use Rattle.pk_type_laws.specs.Answered.Failures.{listing, failures_of}
 
 pub data Answer : Type 0 where
@@ -22,7 +23,7 @@ pub record TextsHaveOneAnswer : Type 0 where
 
 -- Keeping one failure on the way, the first so far, answers as keeping all of them does.
 pub record CheckGivesTheAnswer : Type 0 where
-  pub typed : (text : List ℕ) (xs : List ExternalTree) → (checked noted None text xs).walked.found ≡ None →
-      IsAnswer text xs (accepted (unit_of (checked noted None text xs)))
+  pub typed : (text : List ℕ) (xs : List ExternalTree) → (checked units.noting None text xs).walked.found ≡ None →
+      IsAnswer text xs (accepted (unit_of (checked units.noting None text xs)))
   pub fails : (text : List ℕ) (xs : List ExternalTree) (f : Failure) →
-      (checked noted None text xs).walked.found ≡ Some f → IsAnswer text xs (refused f)
+      (checked units.noting None text xs).walked.found ≡ Some f → IsAnswer text xs (refused f)

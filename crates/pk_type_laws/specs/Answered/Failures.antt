@@ -4,6 +4,7 @@ use Rattle.pk_ast.specs.Trees.{ExternalTree}
 use Rattle.pk_type_scope.specs.declared.failures.Failure.{Failure}
 use Rattle.pk_type.specs.Files.{Filed}
 use Rattle.pk_type.specs.Units.{checked}
+use Rattle.pk_type.specs.Rules as units
 
 -- each failure is kept
 abbrev pub appended : List Failure → List Failure → List Failure
@@ -11,7 +12,7 @@ appended fs gs = fs ++ gs
 
 -- a text from its beginning to its end, with the list of what fails
 abbrev pub listing : List ℕ → List ExternalTree → Filed (List Failure)
-listing text xs = checked appended [] text xs
+listing text xs = checked (units.adding appended) [] text xs
 
 abbrev pub failures_of : List ℕ → List ExternalTree → List Failure
 failures_of text xs = (listing text xs).walked.found

@@ -2,9 +2,9 @@ use Rattle.std.proofs.Common.{◌∙◌, ap, sym, ◌++◌}
 use Rattle.pk_ctypes.specs.declared.words.Rule.TheVariants as rule
 use Rattle.pk_type_scope.specs.Failures.{noted}
 use Rattle.pk_type_declaration.specs.Views.{walked_in}
-use Rattle.pk_type_declaration.specs.Walks.{failing}
+use Rattle.pk_type_declaration.specs.Rules.{failing}
 use Rattle.pk_type_statement.proofs.CaseLemmas.{failing_twice}
-use Rattle.pk_type.specs.Functions.{each_at}
+use Rattle.pk_type.specs.Rules.{each_at}
 use Rattle.pk_type.proofs.bodies.note_jumps.Goals as goal
 
 pub returns : goal.returns

@@ -1,9 +1,9 @@
 -- What is left does what the whole does.
 use Rattle.std.proofs.Common.{◌≡◌, ◌++◌, drop}
 use Rattle.pk_ast.specs.Views.{expression_trees}
-use Rattle.pk_type_scope.specs.Failures.{noted}
 use Rattle.pk_type_declaration.specs.Views.{walked_in}
 use Rattle.pk_type_declaration.specs.Starts.{after_numbers, numbers_at}
+use Rattle.pk_type_declaration.specs.Rules.{noting}
 use Rattle.pk_type_declaration.proofs.starts.numbers.Given as goal
 
 abbrev pub invariant-loop-e : goal.invariant-loop-e
@@ -11,6 +11,6 @@ invariant-loop-e l =
     let rest = expression_trees (drop l.e-index l.list) in
     let all = expression_trees l.list in
     record {
-      walked : after_numbers noted rest (walked_in l.walk) ≡ after_numbers noted all (walked_in l.initial.walk);
-      numbers : l.all.items ++ numbers_at noted l.int_type rest (walked_in l.walk) ≡ l.initial.all.items ++ numbers_at noted l.int_type all (walked_in l.initial.walk);
+      walked : after_numbers noting rest (walked_in l.walk) ≡ after_numbers noting all (walked_in l.initial.walk);
+      numbers : l.all.items ++ numbers_at noting l.int_type rest (walked_in l.walk) ≡ l.initial.all.items ++ numbers_at noting l.int_type all (walked_in l.initial.walk);
     }

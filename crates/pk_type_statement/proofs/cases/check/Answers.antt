@@ -1,8 +1,8 @@
 use Rattle.std.proofs.Common.{◌∙◌, ap}
 use Rattle.pk_type_scope.specs.Failures.{noted}
 use Rattle.pk_type_declaration.specs.Views.{walked_in}
-use Rattle.pk_type_declaration.specs.Walks.{failing}
-use Rattle.pk_type_statement.specs.Statements.{repeated}
+use Rattle.pk_type_declaration.specs.Rules.{failing}
+use Rattle.pk_type_statement.specs.Rules.{repeated}
 use Rattle.pk_type_statement.proofs.CaseLemmas.{next, at_end, next_walked, end_walked, next_numbers, end_numbers}
 use Rattle.pk_type_statement.proofs.cases.check.Goals as goal
 

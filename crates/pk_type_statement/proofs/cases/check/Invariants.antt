@@ -3,10 +3,10 @@ use Rattle.std.proofs.Common.{◌≡◌, drop}
 use Rattle.pk_type_scope.specs.Failures.{noted}
 use Rattle.pk_type_declaration.specs.Parts.{parts_in, joined}
 use Rattle.pk_type_declaration.specs.Views.{walked_in}
-use Rattle.pk_type_declaration.specs.Walks.{failing}
+use Rattle.pk_type_declaration.specs.Rules.{failing}
 use Rattle.pk_type_statement.specs.Numbers.{numbers_in}
-use Rattle.pk_type_statement.specs.Statements.{repeated}
 use Rattle.pk_type_statement.specs.Trees.{case_numbers}
+use Rattle.pk_type_statement.specs.Rules.{repeated}
 use Rattle.pk_type_statement.proofs.cases.check.Given as goal
 
 abbrev pub invariant-loop-case : goal.invariant-loop-case

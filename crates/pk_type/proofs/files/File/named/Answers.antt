@@ -2,9 +2,9 @@ use Rattle.std.proofs.Common.{◌∙◌, ap, sym}
 use Rattle.pk_ast.specs.Views.{block_tree, specifiers_tree, function_tree, parameter_trees}
 use Rattle.pk_type_scope.specs.Specifiers.{type_named}
 use Rattle.pk_type_declaration.specs.Walks.{here}
-use Rattle.pk_type.specs.Functions.{is_redeclared}
 use Rattle.pk_type.specs.Signatures.{types_of}
 use Rattle.pk_type.specs.Views.{defined_names, filed_in, signature_tree}
+use Rattle.pk_type.specs.Rules.{is_redeclared}
 use Rattle.pk_type.proofs.FileLemmas.{is_some_map}
 use Rattle.pk_type.proofs.FunctionLemmas.{named_step}
 use Rattle.pk_type.proofs.files.File.named.Goals as goal

@@ -4,7 +4,8 @@ use Rattle.pk_ctypes.specs.declared.words.Rule.TheVariants as rule
 use Rattle.pk_type_scope.specs.Failures.{noted, fails_if}
 use Rattle.pk_type_scope.specs.Specifiers.{word_failures}
 use Rattle.pk_type_declaration.specs.Views.{walked_in}
-use Rattle.pk_type_declaration.specs.Walks.{here, failing}
+use Rattle.pk_type_declaration.specs.Walks.{here}
+use Rattle.pk_type_declaration.specs.Rules.{failing}
 use Rattle.pk_type_statement.proofs.CaseLemmas.{failing_twice}
 use Rattle.pk_type.specs.Files.{on}
 use Rattle.pk_type.specs.Views.{filed_in}
