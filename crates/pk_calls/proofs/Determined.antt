@@ -71,7 +71,7 @@ walks_determined u (refused {o = o1} b1 off1 new1 w1 r1) (entered {path = path2}
 walks_determined u (refused {o = o1} b1 off1 new1 w1 r1) (refused {o = o2} b2 off2 new2 w2 r2) = walks_determined u w1 w2
 
 -- There is one entry at most.
-entry_determined : (u : UnitTree) (name : List ℕ) (f g : ℕ) → IsEntry u name f → IsEntry u name g → f ≡ g
+pub entry_determined : (u : UnitTree) (name : List ℕ) (f g : ℕ) → IsEntry u name f → IsEntry u name g → f ≡ g
 entry_determined u name f g h k =
     ⊎_elim (λ (lt : f < g). absurd (k.1 f lt h.0)) (λ (le : g ≤ f). ⊎_elim (λ (e : f ≡ g). e) (λ (ne : f ≡ g → ⊥). absurd (h.1 g (omega arith) k.0)) (cases_eq f g)) (cases_lt f g)
 

@@ -4,7 +4,7 @@ use Rattle.pk_ctypes.specs.declared.words.Quantity.TheVariants as quantity
 use Rattle.pk_ast.specs.Trees.{ExternalTree}
 use Rattle.pk_typed.specs.Trees.{UnitTree}
 use Rattle.pk_type_scope.specs.declared.failures.Failure.{Failure}
-use Rattle.pk_type_scope.specs.Failures.{noted}
+use Rattle.pk_type.specs.Rules.{noting}
 use Rattle.pk_type.specs.Units.{checked, unit_of}
 use Rattle.pk_calls.specs.declared.listings.CallPath.{CallPath}
 use Rattle.pk_calls.specs.declared.failures.CallError.{CallError}
@@ -31,7 +31,7 @@ by_answer text entry u has (Err call_error.Memory) some is = absurd (some refl)
 by_failure : (text entry : List ℕ) (all : List ExternalTree) → HasTrees text all → (found : Option Failure) → failure_in text all ≡ found → HasEnd text entry
 by_failure text entry all parsed (Some f) is = is_left {s = Refused (Typing f.rule f.at)} (λ e. cc) (record { all = all; parsed = parsed; found = is })
 by_failure text entry all parsed None is =
-    let u = unit_of (checked noted None text all) in
+    let u = unit_of (checked noting None text all) in
     let answer = has_answer u entry in
     by_answer text entry u (record { all = all; parsed = parsed; accepted = is; unit = refl }) answer.0 answer.1 answer.2
 

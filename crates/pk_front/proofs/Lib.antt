@@ -1,5 +1,6 @@
 mod TextLemmas
 pub mod MarkLemmas
 mod WayLemmas
+mod ProgramLemmas
 mod WalkLemmas
 mod EndLemmas

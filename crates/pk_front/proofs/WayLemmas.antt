@@ -13,7 +13,7 @@ use Rattle.pk_grammar.specs.declared.failure.ParseError.TheVariants as parse_err
 use Rattle.pk_parse.specs.Refusals as trees
 use Rattle.pk_typed.specs.Trees.{UnitTree}
 use Rattle.pk_type_scope.specs.declared.failures.Failure.{Failure}
-use Rattle.pk_type_scope.specs.Failures.{noted}
+use Rattle.pk_type.specs.Rules.{noting}
 use Rattle.pk_type.specs.Units.{checked, unit_of}
 use Rattle.pk_calls.specs.declared.listings.CallPath.{CallPath}
 use Rattle.pk_calls.specs.declared.failures.CallError.{CallError}
@@ -121,7 +121,7 @@ module _ (law : trees.AnswerIsDetermined) where
   one_unit : (text : List ℕ) (u v : UnitTree) → HasUnit text u → HasUnit text v → u ≡ v
   one_unit text u v a b =
       let same : a.all ≡ b.all = one_trees text a.all b.all a.parsed b.parsed in
-      a.unit ∙ ap (λ (ts : List ExternalTree). unit_of (checked noted None text ts)) same ∙ sym b.unit
+      a.unit ∙ ap (λ (ts : List ExternalTree). unit_of (checked noting None text ts)) same ∙ sym b.unit
 
   no_unit : (text : List ℕ) (rule : Rule) (at : Pos) (u : UnitTree) → FailsAsTrees text rule at → HasUnit text u → ⊥
   no_unit text rule at u fails has =

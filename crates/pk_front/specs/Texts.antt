@@ -15,7 +15,7 @@ use Rattle.pk_grammar.specs.declared.failure.ParseError.TheVariants as parsing
 use Rattle.pk_parse.specs.Refusals as trees
 use Rattle.pk_typed.specs.Trees.{UnitTree}
 use Rattle.pk_type_scope.specs.declared.failures.Failure.{Failure}
-use Rattle.pk_type_scope.specs.Failures.{noted}
+use Rattle.pk_type.specs.Rules.{noting}
 use Rattle.pk_type.specs.Units.{checked, unit_of}
 use Rattle.pk_calls.specs.declared.listings.CallPath.{CallPath}
 use Rattle.pk_calls.specs.declared.failures.CallError.{CallError}
@@ -28,7 +28,7 @@ use Rattle.pk_front.specs.declared.failures.Refusal.TheVariants.{Lexical, Unsupp
 
 -- the failure of a typing rule that is told of the trees of a text, if there is one
 abbrev pub failure_in : List ℕ → List ExternalTree → Option Failure
-failure_in text ts = (checked noted None text ts).walked.found
+failure_in text ts = (checked noting None text ts).walked.found
 
 abbrev pub failure : Rule → Pos → Failure
 failure rule at = record { rule = rule; at = at }
@@ -52,7 +52,7 @@ pub record HasUnit (text : List ℕ) (u : UnitTree) : Type 0 where
   pub all : List ExternalTree
   pub parsed : HasTrees text all
   pub accepted : failure_in text all ≡ None
-  pub unit : u ≡ unit_of (checked noted None text all)
+  pub unit : u ≡ unit_of (checked noting None text all)
 
 -- the text's typed tree, and its call paths from an entry
 pub record HasPaths (text entry : List ℕ) (u : UnitTree) (paths : List CallPath) : Type 0 where

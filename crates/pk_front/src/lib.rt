@@ -6,5 +6,5 @@ mod laws;
 mod texts;
 
 pub use failures::{Refusal, TextError};
-pub use laws::{trees_lead_on, way_is_determined};
+pub use laws::{accepted_are_programs, program_is_determined, trees_lead_on, way_is_determined};
 pub use texts::front;
