@@ -3,3 +3,4 @@ pub mod Programs
 pub mod Work
 pub mod Steps
 pub mod Runs
+pub mod Endings

@@ -44,14 +44,9 @@ number_of x s = number_at (numbers_of x s) 0
 
 abbrev pub is_same : Object → Object → Bool
 is_same (file i) (file j) = nat_eq i j
-is_same (file i) (local k j) = false
-is_same (file i) (result k) = false
-is_same (local k i) (file j) = false
 is_same (local k i) (local m j) = nat_eq k m && nat_eq i j
-is_same (local k i) (result m) = false
-is_same (result k) (file j) = false
-is_same (result k) (local m j) = false
 is_same (result k) (result m) = nat_eq k m
+is_same x y = false
 
 abbrev pub is_in_scope : Object → Scope → Bool
 is_in_scope x [] = false

@@ -32,24 +32,20 @@ pub data Mark : Type 0 where
 
 abbrev pub is_label : Mark → ℕ → Bool
 is_label (labelled l) m = nat_eq l m
-is_label (numbered i) m = false
-is_label otherwise m = false
+is_label mark m = false
 
 abbrev pub is_case : Mark → ℕ → Bool
-is_case (labelled l) m = false
 is_case (numbered i) m = nat_eq i m
-is_case otherwise m = false
+is_case mark m = false
 
 abbrev pub is_default : Mark → Bool
-is_default (labelled l) = false
-is_default (numbered i) = false
 is_default otherwise = true
+is_default mark = false
 
 -- a label may stand in a switch, but the cases of an inner switch are its own
 abbrev pub past_switch : Mark → (inner outer : Way) → Way
 past_switch (labelled l) w o = w
-past_switch (numbered i) w o = o
-past_switch otherwise w o = o
+past_switch mark w o = o
 
 -- the names in scope in a `for`, behind its first part
 abbrev pub for_scope : Program → (path : ℕ) → ForStartTree → Scope → Scope
@@ -287,20 +283,11 @@ advance_place p k op at o (tree.scalar t x) w = Advance op at o t (object_of k x
 advance_place p k op at o (tree.element t x r i) w = let a = array_of p k t x in reload r a i one (Renew op at o r a w)
 
 abbrev pub unused : Program → (path : ℕ) → ValueTree → Work → Work
-unused p k (tree.constant t z) w = Evaluate (tree.constant t z) (Drop w)
-unused p k (tree.read q) w = Evaluate (tree.read q) (Drop w)
 unused p k (tree.assign at q e) w = put_place p k q (tree.assign at q e) e w
 unused p k (tree.update op at o q e) w = renew_place p k op at o q (tree.update op at o q e) e w
 unused p k (tree.step op at o q prefix) w = advance_place p k op at o q w
-unused p k (tree.call t f n at es) w = Evaluate (tree.call t f n at es) (Drop w)
-unused p k (tree.any t at) w = Evaluate (tree.any t at) (Drop w)
-unused p k (tree.unary op at t e) w = Evaluate (tree.unary op at t e) (Drop w)
-unused p k (tree.convert t e) w = Evaluate (tree.convert t e) (Drop w)
-unused p k (tree.binary op at t a b) w = Evaluate (tree.binary op at t a b) (Drop w)
-unused p k (tree.and a b) w = Evaluate (tree.and a b) (Drop w)
-unused p k (tree.or a b) w = Evaluate (tree.or a b) (Drop w)
-unused p k (tree.conditional t e a b) w = Evaluate (tree.conditional t e a b) (Drop w)
 unused p k (tree.then_value e v) w = Perform e (Perform (tree.unused v) w)
+unused p k v w = Evaluate v (Drop w)
 
 -- converted to int, where that changes a value (C99 6.5.2.2)
 abbrev pub as_int : ValueTree → ValueTree
@@ -316,20 +303,11 @@ performed p k h (tree.then_effect a b) w = Perform a (Perform b w)
 
 -- a condition: yes where it is true, else no (C99 6.5.13, 6.5.14)
 abbrev pub tested : Place → ValueTree → (yes no : Way) → Work
-tested h (tree.constant t z) y n = Evaluate (tree.constant t z) (Branch y n)
-tested h (tree.read q) y n = Evaluate (tree.read q) (Branch y n)
-tested h (tree.assign at q e) y n = Evaluate (tree.assign at q e) (Branch y n)
-tested h (tree.update op at o q e) y n = Evaluate (tree.update op at o q e) (Branch y n)
-tested h (tree.step op at o q prefix) y n = Evaluate (tree.step op at o q prefix) (Branch y n)
-tested h (tree.call t f m at es) y n = Evaluate (tree.call t f m at es) (Branch y n)
-tested h (tree.any t at) y n = Evaluate (tree.any t at) (Branch y n)
 tested h (tree.unary op at t e) y n = if is_not op then Test e n y else Evaluate (tree.unary op at t e) (Branch y n)
-tested h (tree.convert t e) y n = Evaluate (tree.convert t e) (Branch y n)
-tested h (tree.binary op at t a b) y n = Evaluate (tree.binary op at t a b) (Branch y n)
 tested h (tree.and a b) y n = Test a (Onward h (Test b y n)) n
 tested h (tree.or a b) y n = Test a y (Onward h (Test b y n))
-tested h (tree.conditional t e a b) y n = Evaluate (tree.conditional t e a b) (Branch y n)
 tested h (tree.then_value e v) y n = Perform e (Test v y n)
+tested h v y n = Evaluate v (Branch y n)
 
 -- arguments in order
 abbrev pub pass : ValueTrees → Work → Work
@@ -403,10 +381,8 @@ for_start c (tree.expression (Some e)) w = on c (Perform e w) c.values
 
 -- to the function's exit, where a value is the result (C99 6.8.6.4)
 abbrev pub returns : Config → Option IntType → Option ValueTree → Caller → Next
-returns c None None k = on c (Leave k) c.values
-returns c None (Some e) k = on c (Leave k) c.values
-returns c (Some t) None k = on c (Leave k) c.values
 returns c (Some t) (Some e) k = on c (Evaluate e (Put t (result c.path) (Leave k))) c.values
+returns c t e k = on c (Leave k) c.values
 
 -- at the place of a statement
 abbrev pub standing_at : Pos → Config → Config

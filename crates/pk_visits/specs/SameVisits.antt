@@ -11,28 +11,12 @@ use Rattle.pk_graph.specs.Stores.{Stored, storing}
 use Rattle.pk_lower.specs.Parts.{point_count}
 use Rattle.pk_welltyped.specs.WellTyped.{IsUnit}
 use Rattle.pk_meaning.specs.Programs.{Program}
-use Rattle.pk_meaning.specs.Steps.{Config, Faulted, step}
-use Rattle.pk_meaning.specs.Runs.{Visit, visit_of, start, Runs}
+use Rattle.pk_meaning.specs.Runs.{Visit}
+use Rattle.pk_meaning.specs.Endings.{ProgramVisits}
 use Rattle.pk_visits.specs.GraphVisits.{Begins, visit_at, GraphRuns}
 use Rattle.pk_welltyped.specs.Marks.{AreMarked}
 use Rattle.pk_lower.specs.Answers.{point_limit}
 use Rattle.pk_lower.specs.Graphs.{graph_of}
-
--- the run goes on or not, or its next step fails
-abbrev pub Ends : Program → Config → Option Failure → Type 0
-Ends p c None = Unit {0}
-Ends p c (Some f) = (chosen : Numbers) × (step p chosen c ≡ Faulted f.fault f.site)
-
--- the visits of a run of a program, and the failure at its end if there is one
-pub record ProgramVisits (p : Program) (visits : List Visit) (end : Option Failure) : Type 0 where
-  pub choice : Numbers
-  pub first : Config
-  pub last : Config
-  pub others : List Visit
-  pub starts : start p choice ≡ Some first
-  pub runs : Runs p first others last
-  pub visits_are : visits ≡ visit_of p first ∷ others
-  pub ends : Ends p last end
 
 -- An index without a test of its own (of an item of a braced list, or of an element that was read with it before) lies below the array's length, if it has a value.
 abbrev pub IsInside : InstrOf ℕ → Stored → Type 0

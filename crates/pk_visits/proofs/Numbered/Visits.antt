@@ -9,7 +9,8 @@ use Rattle.pk_number.specs.Numbering.{numbered}
 use Rattle.pk_meaning.specs.Steps.{Config}
 use Rattle.pk_meaning.specs.Runs.{Visit, visit_of, start}
 use Rattle.pk_visits.specs.GraphVisits.{GraphRuns, visit_at, ends, steps}
-use Rattle.pk_visits.specs.SameVisits.{ProgramVisits, Ends, EndsAt, GraphVisits}
+use Rattle.pk_visits.specs.SameVisits.{EndsAt, GraphVisits}
+use Rattle.pk_meaning.specs.Endings.{ProgramVisits, Ends}
 use Rattle.pk_visits.proofs.Slots.{Slot, Memory}
 use Rattle.pk_visits.proofs.Stands.{Whole, ShowsAt, FitsObjects, StandsAt}
 use Rattle.pk_visits.proofs.Journeys as journeys

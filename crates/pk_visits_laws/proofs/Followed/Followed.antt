@@ -12,8 +12,8 @@ use Rattle.pk_meaning.specs.Objects.{Objects}
 use Rattle.pk_meaning.specs.Programs.{Program, function_of, first_objects}
 use Rattle.pk_meaning.specs.Steps.{Config, body_place}
 use Rattle.pk_meaning.specs.Runs.{Visit, with_arguments, begins, start}
-use Rattle.pk_visits.specs.SameVisits.{ProgramVisits, GraphVisits}
-use Rattle.pk_visits.specs.NeverStuck.{IsNeverStuck}
+use Rattle.pk_visits.specs.SameVisits.{GraphVisits}
+use Rattle.pk_meaning.specs.Endings.{ProgramVisits, IsNeverStuck}
 use Rattle.pk_visits.proofs.Slots.{region_at}
 use Rattle.pk_visits.proofs.Stands.{ShowsAt, BodiesStand, StandsAt}
 use Rattle.pk_visits.proofs.Journeys.{law, never_stuck, stands_first}

@@ -16,7 +16,8 @@ use Rattle.pk_meaning.specs.Steps as meaning
 use Rattle.pk_meaning.specs.Steps.{Config, Next, step}
 use Rattle.pk_meaning.specs.Runs.{Visit, Runs}
 use Rattle.pk_meaning.specs.Runs as runs
-use Rattle.pk_visits.specs.SameVisits.{FailsAt, Ends, EndsAt}
+use Rattle.pk_visits.specs.SameVisits.{FailsAt, EndsAt}
+use Rattle.pk_meaning.specs.Endings.{Ends}
 use Rattle.pk_visits.proofs.Slots.{Slot, own, Instr, edge, Memory, memory, with_memory, Among, region_at}
 use Rattle.pk_visits.proofs.Stands.{Whole, StandsAt}
 use Rattle.pk_visits.proofs.Follow.{Answers, Follows, Doomed, now, later, set_does}

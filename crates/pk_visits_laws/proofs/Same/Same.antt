@@ -17,7 +17,8 @@ use Rattle.pk_meaning.specs.Programs.{function_of, first_objects}
 use Rattle.pk_meaning.specs.Steps.{Config}
 use Rattle.pk_meaning.specs.Runs.{Visit, visit_of, begins}
 use Rattle.pk_visits.specs.GraphVisits.{visit_at}
-use Rattle.pk_visits.specs.SameVisits.{ProgramVisits, GraphVisits, ProgramsAreFollowed, GraphsHaveProgramVisits}
+use Rattle.pk_visits.specs.SameVisits.{GraphVisits, ProgramsAreFollowed, GraphsHaveProgramVisits}
+use Rattle.pk_meaning.specs.Endings.{ProgramVisits}
 use Rattle.pk_visits.proofs.Stands.{StandsAt}
 use Rattle.pk_visits.proofs.Journeys.{law, stands_first}
 use Rattle.pk_visits.proofs.Numbered.Edges.{entry_found, entry_number}
