@@ -1,18 +1,19 @@
 -- A head is led to from a point before it, and back.
-use Rattle.std.proofs.Common.{ℕ, ◌<◌, subst, List, arith}
+use Rattle.std.proofs.Common.{ℕ, ◌<◌, ◌≤◌, inl, inr, subst, List, sym, arith}
 use Rattle.std.specs.List.{Contains}
 use Rattle.pk_plan.specs.declared.components.Component.{Component}
-use Rattle.pk_plan.specs.Digraphs.{Edge, Reach, Here, Then}
+use Rattle.pk_plan.specs.Digraphs.{IsVertex, Edge, Reach, Here, Then}
 use Rattle.pk_plan.specs.Nests.{Holds}
 use Rattle.pk_plan.specs.Order.{Level}
 use Rattle.pk_plan.specs.Plans.{PlanView}
 use Rattle.pk_plan.proofs.DigraphLemmas.{edge_from_vertex}
 use Rattle.pk_nest.proofs.Paths.{reach_end}
 use Rattle.pk_nest.proofs.ComponentLemmas.{From, component_is}
+use Rattle.pk_wpo.proofs.Connected.{reach_first}
 use Rattle.pk_order.specs.Ordered.{IsOrdered, heads_of}
 use Rattle.pk_number.specs.Numbering.{numbered}
-use Rattle.pk_head_laws.specs.Entries.{ends_of, IsLedToTwice}
-use Rattle.pk_head_laws.specs.Laws.{AreLedTo, HeadsAreLedToTwice}
+use Rattle.pk_head_laws.specs.Entries.{ends_of, IsLedToTwice, IsReturnedTo}
+use Rattle.pk_head_laws.specs.Laws.{AreLedTo, HeadsAreLedToTwice, ReturnsLeadTwice}
 use Rattle.pk_head_laws.proofs.Numbered.{points_are_led_to}
 use Rattle.pk_head_laws.proofs.Drafts.{mapped}
 
@@ -34,3 +35,18 @@ twice g led p order h o listed some =
 
 pub heads_are_led_to_twice : HeadsAreLedToTwice
 heads_are_led_to_twice paths d p order h o listed some = twice (ends_of (numbered paths d)) (points_are_led_to paths d) p order h o listed some
+
+-- ---- where a way returns
+
+pub returned_twice : (g : List (List ℕ)) → AreLedTo g → (h : ℕ) → 0 < h → IsReturnedTo g h → IsLedToTwice g h
+returned_twice g led h some r =
+    let behind : h ≤ r.last = reach_end g (λ w. h ≤ w) h r.last r.way in
+    let first = led h some at in
+    let before = first.1 in
+    record { first = first.0; second = r.last; two = λ e. absurd (omega (arith, e, before, behind)); from_first = first.2; from_second = r.back }
+  where
+    at : IsVertex g h
+    at = elim (reach_first g (λ w. h ≤ w) h r.last r.way) [ inl same ↦ subst (IsVertex g) (sym same) (edge_from_vertex g r.last h r.back) | inr x ↦ edge_from_vertex g h x.0 x.1 ]
+
+pub returns_lead_twice : ReturnsLeadTwice
+returns_lead_twice paths d h some r = returned_twice (ends_of (numbered paths d)) (points_are_led_to paths d) h some r

@@ -5,5 +5,6 @@ mod laws;
 
 pub use laws::{
     dominators_are_heads, dominators_come_first, entries_are_heads, heads_are_led_to_twice,
-    parts_are_entered, parts_have_heads, points_are_led_to, twice_led_to_are_heads,
+    parts_are_entered, parts_have_heads, points_are_led_to, returns_lead_twice,
+    twice_led_to_are_heads,
 };

@@ -13,7 +13,7 @@ use Rattle.pk_lower.specs.Parts.{program_draft}
 use Rattle.pk_lower.specs.Paths.{path_of}
 use Rattle.pk_head_laws.specs.Drafts.{IsEntryFrom}
 use Rattle.pk_head_laws.proofs.Drafts.{no_place, led_to_twice}
-use Rattle.pk_head_laws.proofs.Heads.{heads_are_led_to_twice}
+use Rattle.pk_head_laws.proofs.Heads.{heads_are_led_to_twice, returns_lead_twice}
 use Rattle.pk_visits.specs.Turns.{TurnPoint, turning, program_turns}
 use Rattle.pk_edge_laws.specs.Edges.{IsLabelIn, IsInLoop}
 use Rattle.pk_loop_heads.specs.Laws.{LoopsHaveHeads}
@@ -77,5 +77,8 @@ loops_have_heads law u name paths unit marked has path at plain =
       record {
         head = λ p order o twice. (led_to_twice listed d (IsInLoop (IsLabelIn e.first e.labels plain.inner) e.head e.last) e.from e.head (entry_from d plain.inner at us e) twice p order o).listed;
         turned = λ p order o is. heads_are_led_to_twice listed d p order (place_among found e.head) o is (not_first d e.head e.low);
+        followed = λ p order o back.
+            (led_to_twice listed d (IsInLoop (IsLabelIn e.first e.labels plain.inner) e.head e.last) e.from e.head (entry_from d plain.inner at us e)
+            (returns_lead_twice listed d (place_among found e.head) (not_first d e.head e.low) back) p order o).listed;
       },
     )

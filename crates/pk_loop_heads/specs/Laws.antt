@@ -13,7 +13,7 @@ use Rattle.pk_welltyped.specs.Marks.{AreMarked}
 use Rattle.pk_plan.specs.Order.{Level}
 use Rattle.pk_plan.specs.Plans.{PlanView}
 use Rattle.pk_order.specs.Ordered.{IsOrdered, heads_of}
-use Rattle.pk_head_laws.specs.Entries.{ends_of, IsLedToTwice}
+use Rattle.pk_head_laws.specs.Entries.{ends_of, IsLedToTwice, IsReturnedTo}
 use Rattle.pk_visits.specs.Turns.{TurnPoint, turning}
 use Rattle.pk_visits.specs.Turning.{graph_turns}
 use Rattle.pk_loop_heads.specs.Loops.{IsClosed, HasLoopIn}
@@ -30,12 +30,15 @@ pub record IsPlainLoop (u : UnitTree) (paths : List CallPath) (path : ℕ) (at :
   pub loop : HasLoopIn at inner body.items
   pub closed : IsClosed body.items inner
 
--- t is a head exactly if edges lead to it from two points: from one before the loop that begins again there, and back.
+-- t is a head exactly if edges lead to it from two points: from one before the loop that begins again there, and back. So it is wherever one turn can follow another without leaving the loop: a way leads back to t over points
+-- none of which is before it, as none of the loop's is, and the one is from which the loop is entered.
 pub record IsHeadIfTurned (g : GraphOf) (t : ℕ) : Type 0 where
   pub head : (p : PlanView) (order : Level) → IsOrdered (ends_of g) p order → IsLedToTwice (ends_of g) t →
       Contains (heads_of p) t
   pub turned : (p : PlanView) (order : Level) → IsOrdered (ends_of g) p order → Contains (heads_of p) t →
       IsLedToTwice (ends_of g) t
+  pub followed : (p : PlanView) (order : Level) → IsOrdered (ends_of g) p order → IsReturnedTo (ends_of g) t →
+      Contains (heads_of p) t
 
 -- each plain loop of a path begins again at such a point
 abbrev pub PlainLoopsHaveHeads : GraphOf → (IsPlain : ℕ → Pos → Type 0) → (turns : ℕ → List TurnPoint) → Type 0
