@@ -114,17 +114,19 @@ module _ (f : Naming) (M : Slot → Type 0) (paths : List PathOf) (g : Whole) (d
     by : {o : Operation} → Outcome w last.path last.here last.work last.values at a.point a.memory o → CanFault o fault → IsEvaluated (numbered paths d) (site_at last.path at) fault ⊎ IsFolded g.program first last
     by (does {operation = o} c) can = inl (evaluated last visits at o fault a can c)
     by (constants e v us of fixed begun goes) can = inr (record {
-      expression = e;
+      operator = record {
+        expression = e;
+        behind = v;
+        constants = of;
+        begun = begun.0;
+        on = begun.1;
+        path = begun.2;
+        begins = begun.3;
+        next = record last { work = v; values = us; is_visit = false };
+        goes_on = λ chosen. goes g.program chosen last refl;
+      };
       value = fixed.0;
       folded = fixed.1;
-      behind = v;
-      constants = of;
-      begun = begun.0;
-      on = begun.1;
-      path = begun.2;
-      begins = begun.3;
-      next = record last { work = v; values = us; is_visit = false };
-      goes_on = λ chosen. goes g.program chosen last refl;
     })
     by (was_read r) can = inl (was_evaluated last.path at fault can r)
 

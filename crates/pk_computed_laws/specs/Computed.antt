@@ -72,19 +72,11 @@ site c at = record { path = c.path; at = at }
 -- an expression whose value is a constant, whatever it does before
 abbrev pub IsConstant : ValueTree → Type 0
 IsConstant (tree.constant t z) = Unit {0}
-IsConstant (tree.read q) = ⊥
-IsConstant (tree.assign at q e) = ⊥
-IsConstant (tree.update op at o q e) = ⊥
-IsConstant (tree.step op at o q prefix) = ⊥
-IsConstant (tree.call t f n at es) = ⊥
-IsConstant (tree.any t at) = ⊥
 IsConstant (tree.unary op at t e) = IsConstant e
 IsConstant (tree.convert t e) = IsConstant e
 IsConstant (tree.binary op at t a b) = IsConstant a × IsConstant b
-IsConstant (tree.and a b) = ⊥
-IsConstant (tree.or a b) = ⊥
-IsConstant (tree.conditional t e a b) = ⊥
 IsConstant (tree.then_value e v) = IsConstant v
+IsConstant e = ⊥
 
 -- the work at hand computes the operator of this expression, whose operands are constants; the work behind it
 pub data IsOfConstants : Work → ValueTree → Work → Type 0 where
@@ -100,11 +92,9 @@ pub record IsOn (p : Program) (first last c : Config) : Type 0 where
   pub others : List Visit
   pub after : Runs p c others last
 
--- The run began to evaluate the operator on its path as one of constants, with the same work behind it, of which the lowering knows the value; and it doesn't fault. Then the graph has its value in its place.
-pub record IsFolded (p : Program) (first last : Config) : Type 0 where
+-- The run began to evaluate the operator on its path as one of constants, with the same work behind it, and it doesn't fault.
+pub record IsOnConstants (p : Program) (first last : Config) : Type 0 where
   pub expression : ValueTree
-  pub value : ℤ
-  pub folded : shape_of expression ≡ Fixed value
   pub behind : Work
   pub constants : IsOfConstants last.work expression behind
   pub begun : Config
@@ -113,6 +103,12 @@ pub record IsFolded (p : Program) (first last : Config) : Type 0 where
   pub begins : begun.work ≡ work.Evaluate expression behind
   pub next : Config
   pub goes_on : (chosen : Numbers) → step p chosen last ≡ To next
+
+-- And the lowering knows the operator's value. Then the graph has that in its place.
+pub record IsFolded (p : Program) (first last : Config) : Type 0 where
+  pub operator : IsOnConstants p first last
+  pub value : ℤ
+  pub folded : shape_of operator.expression ≡ Fixed value
 
 -- ---- nothing is left out
 

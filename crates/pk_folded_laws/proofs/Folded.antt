@@ -70,5 +70,6 @@ computed_accesses_are_evaluated law u name paths unit marked has few apart choic
       by : IsEvaluated (graph_of u paths) (site last at) fault ⊎ IsFolded (record { unit = u; paths = paths }) first last → IsEvaluated (graph_of u paths) (site last at) fault
       by (inl e) = e
       by (inr f) =
-          absurd (folded_has_no_access u paths apart choice first f.begun f.on.visits f.expression f.behind at f.value starts f.on.before f.begins (operator_at f.constants computes) f.folded a listed
-          (here ∙ ap (λ (k : ℕ). record { path = k; at = at }) (sym f.path)))
+          let o = f.operator in
+          absurd (folded_has_no_access u paths apart choice first o.begun o.on.visits o.expression o.behind at f.value starts o.on.before o.begins (operator_at o.constants computes) f.folded a listed
+          (here ∙ ap (λ (k : ℕ). record { path = k; at = at }) (sym o.path)))

@@ -1,14 +1,14 @@
 // Laws of reports.
 
 ghost use Rattle.pk_report_laws.specs.Runs.True.{AnswersAreTrue, CheckedCellsAreTrue, ReportsAreTrue};
-ghost use Rattle.pk_report_laws.specs.Programs.ToldOfPrograms.{ChecksAreTrueOfPrograms, ReportsAreTrueOfPrograms, TrueStatesAreTrueOfPrograms};
+ghost use Rattle.pk_report_laws.specs.Programs.TrueOfPrograms.{ChecksAreTrueOfPrograms, ReportsAreTrueOfPrograms, TrueStatesAreTrueOfPrograms};
 ghost use Rattle.pk_report_laws.specs.Programs.Faultless.{ChecksAreFaultless, ProgramsAreFaultless, TrueStatesAreFaultless};
 
 use pk_access_texts::accesses_are_apart;
 use pk_cert_laws::{checked_cells_hold_runs, read_cells_hold_states};
 use pk_computed_texts::texts_computed_is_evaluated;
 use pk_folded_texts::texts_computed_accesses_are_evaluated;
-use pk_front::way_is_determined;
+use pk_front::{accepted_are_programs, program_is_determined};
 use pk_loop_heads_texts::turns_of_texts_are_heads;
 use pk_loop_texts::turns_of_texts_are_apart;
 use pk_sound::{bounds_hold, faults_are_unknown, result_holds_runs, verdicts_hold};
@@ -87,7 +87,8 @@ pub fn true_states_are_faultless()
     ensures { TrueStatesAreFaultless }
 {
     true_states_are_true_of_programs();
-    way_is_determined();
+    accepted_are_programs();
+    program_is_determined();
 }
 
 /// So where the report on a text's graph has no unknown verdict.

@@ -3,23 +3,13 @@ use Rattle.std.specs.Prelude.{◌≡◌, ◌⊎◌, ℕ, ◌<◌, List, [], leng
 use Rattle.std.specs.declared.option.Option.{Option}
 use Rattle.std.specs.Io.KnownBytes.{Appends, Keeps}
 use Rattle.pk_status.specs.declared.status.Status.{Status}
-use Rattle.pk_status.specs.declared.status.Status.TheVariants.{Ok, Usage, Refused, Limit, RunLimit, CertLimit, CertByte, CertState, CertFails, ReadFault, WriteFault, Memory}
+use Rattle.pk_status.specs.declared.status.Status.TheVariants.{Ok, ReadFault, WriteFault, Memory}
 use Rattle.pk_command.specs.declared.asked.Command.{Command}
 use Rattle.pk_text_report.specs.Answers.{IsAnswer, IsLong, limit_of}
 
 abbrev pub IsSuccess : Status → Type 0
 IsSuccess (Ok unknown) = Unit {0}
-IsSuccess Usage = ⊥
-IsSuccess (Refused refusal) = ⊥
-IsSuccess (Limit what number) = ⊥
-IsSuccess (RunLimit max_runs) = ⊥
-IsSuccess CertLimit = ⊥
-IsSuccess (CertByte offset) = ⊥
-IsSuccess (CertState point) = ⊥
-IsSuccess (CertFails point) = ⊥
-IsSuccess ReadFault = ⊥
-IsSuccess (WriteFault sent) = ⊥
-IsSuccess Memory = ⊥
+IsSuccess status = ⊥
 
 -- the status is the answer's, and exactly its bytes were written
 pub record Gives (words : List (List ℕ)) (text : List ℕ) (status : Status)
@@ -41,30 +31,13 @@ abbrev pub Answers : List (List ℕ) → List ℕ → Status → Option (List �
 Answers words text ReadFault before after = Keeps before after
 Answers words text Memory before after = Keeps before after
 Answers words text (WriteFault sent) before after = IsCutShort words text sent before after
-Answers words text (Ok unknown) before after = Gives words text (Ok unknown) before after
-Answers words text Usage before after = Gives words text Usage before after
-Answers words text (Refused refusal) before after = Gives words text (Refused refusal) before after
-Answers words text (Limit what number) before after = Gives words text (Limit what number) before after
-Answers words text (RunLimit max_runs) before after = Gives words text (RunLimit max_runs) before after
-Answers words text CertLimit before after = Gives words text CertLimit before after
-Answers words text (CertByte offset) before after = Gives words text (CertByte offset) before after
-Answers words text (CertState point) before after = Gives words text (CertState point) before after
-Answers words text (CertFails point) before after = Gives words text (CertFails point) before after
+Answers words text status before after = Gives words text status before after
 
 -- at every status but a success and a fault of writing the sink is as it was
 abbrev pub KeepsUnlessTold : Status → Option (List ℕ) → Option (List ℕ) → Type 0
 KeepsUnlessTold (Ok unknown) before after = Unit {0}
 KeepsUnlessTold (WriteFault sent) before after = Unit {0}
-KeepsUnlessTold Usage before after = Keeps before after
-KeepsUnlessTold (Refused refusal) before after = Keeps before after
-KeepsUnlessTold (Limit what number) before after = Keeps before after
-KeepsUnlessTold (RunLimit max_runs) before after = Keeps before after
-KeepsUnlessTold CertLimit before after = Keeps before after
-KeepsUnlessTold (CertByte offset) before after = Keeps before after
-KeepsUnlessTold (CertState point) before after = Keeps before after
-KeepsUnlessTold (CertFails point) before after = Keeps before after
-KeepsUnlessTold ReadFault before after = Keeps before after
-KeepsUnlessTold Memory before after = Keeps before after
+KeepsUnlessTold status before after = Keeps before after
 
 -- ---- without a report
 
@@ -74,29 +47,13 @@ IsUntold words text (Ok unknown) = ⊥
 IsUntold words text (WriteFault sent) = ⊥
 IsUntold words text ReadFault = Unit {0}
 IsUntold words text Memory = Unit {0}
-IsUntold words text Usage = IsAnswer words text Usage []
-IsUntold words text (Refused refusal) = IsAnswer words text (Refused refusal) []
-IsUntold words text (Limit what number) = IsAnswer words text (Limit what number) []
-IsUntold words text (RunLimit max_runs) = IsAnswer words text (RunLimit max_runs) []
-IsUntold words text CertLimit = IsAnswer words text CertLimit []
-IsUntold words text (CertByte offset) = IsAnswer words text (CertByte offset) []
-IsUntold words text (CertState point) = IsAnswer words text (CertState point) []
-IsUntold words text (CertFails point) = IsAnswer words text (CertFails point) []
+IsUntold words text status = IsAnswer words text status []
 
 -- a status that ends a call before anything is written
 abbrev pub IsStop : Status → Type 0
 IsStop (Ok unknown) = ⊥
 IsStop (WriteFault sent) = ⊥
-IsStop Usage = Unit {0}
-IsStop (Refused refusal) = Unit {0}
-IsStop (Limit what number) = Unit {0}
-IsStop (RunLimit max_runs) = Unit {0}
-IsStop CertLimit = Unit {0}
-IsStop (CertByte offset) = Unit {0}
-IsStop (CertState point) = Unit {0}
-IsStop (CertFails point) = Unit {0}
-IsStop ReadFault = Unit {0}
-IsStop Memory = Unit {0}
+IsStop status = Unit {0}
 
 -- what a source tells wasn't read: it is more than so many bytes, and the status is the one for that, or a read or the memory failed
 abbrev pub IsUnread : (most : ℕ) → Status → List ℕ → Status → Type 0

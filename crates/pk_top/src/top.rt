@@ -9,11 +9,13 @@ ghost use Rattle.pk_ctypes.specs.declared.words.Quantity.TheVariants.{Text};
 ghost use Rattle.pk_cert_cells.specs.Cells.{most_bytes};
 ghost use Rattle.pk_text_report.specs.Answers.{IsAnswer, IsShort, AskAbout, AskNoSource, IsMaking, text_limit, text_of};
 ghost use Rattle.pk_top.specs.Headline.{Answers, Gives, IsStop, IsSuccess, IsTextless, IsUnread, IsUntold, KeepsUnlessTold};
+ghost use Rattle.pk_top.specs.Holding.{HoldFor, TrueFor, Writes};
 ghost use Rattle.pk_top.specs.Truth.{AskFaultless, AskInRange, TellsTruth};
 
 use pk_cert_cells::MOST_BYTES;
 use pk_command::{Command, WordsError, read_words};
 use pk_ctypes::Quantity;
+use pk_front::accepted_are_programs;
 use pk_gen::generate;
 use pk_io::{ReadError, Sink, Source, read_all, write_all};
 use pk_report_laws::{
@@ -152,6 +154,16 @@ pub fn pikos<R: Threads + Wait + Sync, S: Source, K: Sink, G: Gate + Sync>(
         result ≡ Status.Ok unknown →
         TellsTruth (map string_bytes words.now) text unknown (K.written out.old) (K.written out.new) }
 
+    // So, of less that must be read: what is told of accesses and of points holds of every run of that program,
+    ensures holds { (text : List ℕ) → AskAbout (map string_bytes words.now) (S.left src.old) text → (unknown : ℕ) →
+        result ≡ Status.Ok unknown →
+        Writes HoldFor (map string_bytes words.now) text unknown (K.written out.old) (K.written out.new) }
+
+    // and it is told of the points of the program's graph, its accesses, loops and heads, and is true of them, whatever found it.
+    ensures points { (text : List ℕ) → AskAbout (map string_bytes words.now) (S.left src.old) text → (unknown : ℕ) →
+        result ≡ Status.Ok unknown →
+        Writes TrueFor (map string_bytes words.now) text unknown (K.written out.old) (K.written out.new) }
+
     // At a success with no unknown verdict no run of that program fails.
     ensures no_fault { (text : List ℕ) → AskAbout (map string_bytes words.now) (S.left src.old) text →
         result ≡ Status.Ok 0 → AskFaultless (map string_bytes words.now) text }
@@ -180,6 +192,7 @@ pub fn pikos<R: Threads + Wait + Sync, S: Source, K: Sink, G: Gate + Sync>(
     // At a success a source that was asked was read to its end.
     ensures whole { IsSuccess result → AskNoSource (map string_bytes words.now) ⊎ IsAtEnd (S.left src.new) }
 {
+    accepted_are_programs();
     reports_are_true_of_programs();
     programs_are_faultless();
     checks_are_true_of_programs();

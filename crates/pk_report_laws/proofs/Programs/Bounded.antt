@@ -18,7 +18,7 @@ use Rattle.pk_state.specs.Members.{number_if, selected}
 use Rattle.pk_sound.specs.Held.{Agrees, AgreesWith}
 use Rattle.pk_meaning.specs.Runs.{Known}
 use Rattle.pk_visits.specs.GraphVisits.{known_of, visit_at}
-use Rattle.pk_report_laws.specs.Programs.ToldOfPrograms.{IsKnownAs, IsPlacedAt, AreBounded, IsToldAt, IsToldIf}
+use Rattle.pk_report_laws.specs.Programs.Told.{IsKnownAs, IsPlacedAt, AreBounded, IsToldAt, IsToldIf}
 
 -- ---- ranges and classes
 

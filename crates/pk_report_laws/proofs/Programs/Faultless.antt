@@ -3,14 +3,13 @@ use Rattle.std.specs.Prelude.{◌≡◌, ℕ, zero, suc, ◌+◌, ◌<◌, Bool,
 use Rattle.std.proofs.Common.{arith, ap, refl, sym, subst, ◌∙◌}
 use Rattle.std.proofs.lemmas.List.Sums.{sum_by-cons}
 use Rattle.pk_graph.specs.declared.verdicts.Verdict.{Verdict}
-use Rattle.pk_graph.specs.Accesses.{AccessOf, accesses_of}
-use Rattle.pk_graph.specs.Graphs.{GraphOf}
-use Rattle.pk_state.specs.Facts.{Stated}
+use Rattle.pk_graph.specs.Accesses.{AccessOf}
 use Rattle.pk_report.specs.Reports.{is_unknown, unknown_in}
-use Rattle.pk_graph_report.specs.Reported.{verdict_at, verdicts_of}
 use Rattle.pk_meaning.specs.Programs.{Program}
 use Rattle.pk_meaning.specs.Runs.{visit_of}
-use Rattle.pk_report_laws.specs.Programs.ToldOfPrograms.{IsTrueOfProgram}
+use Rattle.pk_report_laws.specs.Programs.Told.{Told, told_verdict}
+use Rattle.pk_report_laws.specs.Programs.ToldOfPrograms.{HoldsOfProgram}
+use Rattle.pk_report_laws.specs.Programs.Holding.{verdicts_in}
 use Rattle.pk_report_laws.specs.Programs.Faultless.{NoRunFails}
 
 abbrev weight : Bool → ℕ
@@ -33,9 +32,9 @@ module _ (v : AccessOf → Verdict) (a : AccessOf) (unknown : is_unknown (v a) �
   counted [] h = absurd (omega (h.1, arith))
   counted (x ∷ xs) h = counted_at x xs h.0 h.1 h.2 (counted xs)
 
-pub faultless : (p : Program) (g : GraphOf) (states : List Stated) → IsTrueOfProgram p g states → unknown_in (verdicts_of g states) ≡ 0 → NoRunFails p
-faultless p g states true_of none choice first last visits chosen fault site starts runs fails =
-    let told = true_of.faults (visit_of p first ∷ visits) (Some (record { fault = fault; site = site })) (record {
+pub faultless : (p : Program) (t : Told) → HoldsOfProgram p t → unknown_in (verdicts_in t) ≡ 0 → NoRunFails p
+faultless p t holds none choice first last visits chosen fault site starts runs fails =
+    let told = holds.faults (visit_of p first ∷ visits) (Some (record { fault = fault; site = site })) (record {
       choice = choice;
       first = first;
       last = last;
@@ -45,5 +44,5 @@ faultless p g states true_of none choice first last visits chosen fault site sta
       visits_are = refl;
       ends = (chosen, fails);
     }) in
-    let some = counted (verdict_at states) told.access (ap is_unknown told.unknown) (accesses_of g) told.listed in
+    let some = counted (told_verdict t) told.access (ap is_unknown told.unknown) t.accesses told.listed in
     absurd (omega (arith, some, none))

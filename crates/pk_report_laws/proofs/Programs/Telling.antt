@@ -19,20 +19,20 @@ use Rattle.pk_sound.specs.Faults.{IsHidden, IsFailing}
 use Rattle.pk_access_laws.specs.Laws.{NoneTwice}
 use Rattle.pk_computed_laws.specs.Evaluated.{OperationsAreEvaluated}
 use Rattle.pk_folded_texts.specs.Texts.{AccessesThemselvesAreEvaluated}
-use Rattle.pk_report_laws.proofs.Programs.Reached.{reached as reached_by, none_computes}
-use Rattle.pk_report_laws.specs.Runs.True.{AreTrueOf, IsUnknownIn}
+use Rattle.pk_report_laws.proofs.Programs.Reached.{reached as reached_by, reached_or_constant, none_computes}
+use Rattle.pk_report_laws.specs.Runs.True.{AreTrueStates, IsUnknown, verdict_by}
 use Rattle.pk_meaning.specs.Programs.{Program}
 use Rattle.pk_meaning.specs.Runs.{Visit}
 use Rattle.pk_visits.specs.GraphVisits.{GraphRuns, ends, steps, is_visit, visit_at, visits_if}
-use Rattle.pk_visits.specs.NeverStuck.{IsNeverStuck}
+use Rattle.pk_meaning.specs.Endings.{IsNeverStuck}
 use Rattle.pk_loop_texts.specs.Laws.{BeginsAtOne}
 use Rattle.pk_loop_heads.specs.Laws.{IsPlainLoop}
 use Rattle.pk_loop_heads_texts.specs.Laws.{TurnsAreHeads}
-use Rattle.pk_visits.specs.Turns.{TurnPoint}
 use Rattle.pk_visits.specs.Turning.{TurnsAreAt, graph_turns}
 use Rattle.pk_visits.specs.SameVisits.{GraphVisits, HaveSameVisits, FailsAt, EndsAt, IsInside}
-use Rattle.pk_report_laws.specs.Programs.ToldOfPrograms.{IsToldOf, IsToldVisit, AreToldAlong, ends as no_more, seen, passed, AreToldInOrder, IsToldFault, IsToldEnd, TurnsAreTold, IsTrueOfProgram}
-use Rattle.pk_verdict.specs.Verdicts.{verdict_of}
+use Rattle.pk_report_laws.specs.Programs.Told.{IsToldOf, IsToldVisit}
+use Rattle.pk_report_laws.specs.Programs.ToldOfPrograms.{IsToldFault, IsToldEnd, TurnsAreTold}
+use Rattle.pk_report_laws.specs.Programs.TrueOfPrograms.{AreToldAlong, ends as no_more, seen, passed, AreToldInOrder, told_by, IsTrueOfProgram}
 use Rattle.pk_sound.proofs.Accesses.{IsAccessAt, in_instr}
 use Rattle.pk_visits_laws.specs.Ways.OneWay.{SharesAccesses}
 use Rattle.pk_report_laws.proofs.Programs.Bounded.{store_told}
@@ -57,7 +57,7 @@ named_below : (n : ℕ) (es : List Entry) → All (λ (e : Entry). e.variable < 
 named_below n es h =
     All-map (λ (x : ℕ). x < n) (λ (e : Entry). e.variable) (filter (λ (e : Entry). not e.hides) es) (All-filter (λ (e : Entry). not e.hides) (λ (e : Entry). e.variable < n) es h)
 
-module _ (g : GraphOf) (states : List Stated) (made : IsGraph g) (t : AreTrueOf g states) (share : (p : ℕ) → SharesAccesses p (point_at g p).edges) where
+module _ (p : Program) (g : GraphOf) (heads : List ℕ) (states : List Stated) (made : IsGraph g) (t : AreTrueStates g states) (share : (p : ℕ) → SharesAccesses p (point_at g p).edges) where
   -- a run comes to points of the graph alone
   there : (v : ℕ) (s : Stored) → Reaches g v s → v < length g.points
   there v s (begins h) = made.entry
@@ -114,58 +114,58 @@ module _ (g : GraphOf) (states : List Stated) (made : IsGraph g) (t : AreTrueOf 
     at_end = x.ends;
   }
 
-  failing : (p : ℕ) (s : Stored) (f : Failure) → Reaches g p s → FailsAt g p s f → IsToldFault g states f
-  failing p s f h x = by (t.faults p s x.edge x.chosen f h x.there x.fails)
+  failing : (point : ℕ) (s : Stored) (f : Failure) → Reaches g point s → FailsAt g point s f → IsToldFault (told_by p g heads states) f
+  failing point s f h x = by (t.faults point s x.edge x.chosen f h x.there x.fails)
     where
-      by : ((a : AccessOf) × IsFailing p x.edge.instr f s a × IsUnknownIn states p a) ⊎ IsHidden x.edge.instr f.site s → IsToldFault g states f
+      by : ((a : AccessOf) × IsFailing point x.edge.instr f s a × IsUnknown (verdict_by states) point a.operation) ⊎ IsHidden x.edge.instr f.site s → IsToldFault (told_by p g heads states) f
       by (inl (a, is, (lo, hi, unknown))) =
-          let point = All-get_or (IsPointOf g) g.points p no_point (there p s h) made.points in
-          let edge = All-contains (IsEdgeOf g) (point_at g p).edges x.edge point.edges x.there in
-          let at = (All-contains (IsAccessAt (kinds_of g) p) (of_instr p x.edge.instr) a (in_instr (kinds_of g) p x.edge.instr edge.typed) is.listed).point in
-          let listed = listed_access g p x.edge a (there p s h) x.there (share p) is.listed in
-          let verdict = subst (λ (v : ℕ). verdict_of (state_at states v).layout (state_at states v).facts a.operation ≡ Unknown lo hi) (sym at) unknown in
+          let here = All-get_or (IsPointOf g) g.points point no_point (there point s h) made.points in
+          let edge = All-contains (IsEdgeOf g) (point_at g point).edges x.edge here.edges x.there in
+          let at = (All-contains (IsAccessAt (kinds_of g) point) (of_instr point x.edge.instr) a (in_instr (kinds_of g) point x.edge.instr edge.typed) is.listed).point in
           record {
             access = a;
-            listed = listed;
+            listed = listed_access g point x.edge a (there point s h) x.there (share point) is.listed;
             place = is.site;
             kind = is.fault;
             lo = lo;
             hi = hi;
-            unknown = verdict;
-            bounds = t.bounds a lo hi listed verdict;
+            unknown = subst (λ (v : ℕ). verdict_by states v a.operation ≡ Unknown lo hi) (sym at) unknown;
           }
       by (inr hidden) = absurd (not_hidden x.edge.instr f.site s x.inside hidden)
 
-  ended : (p : ℕ) (s : Stored) (end : Option Failure) → Reaches g p s → EndsAt g p s end → IsToldEnd g states end
-  ended p s None h x = tt
-  ended p s (Some f) h x = failing p s f h x
+  ended : (point : ℕ) (s : Stored) (end : Option Failure) → Reaches g point s → EndsAt g point s end → IsToldEnd (told_by p g heads states) end
+  ended point s None h x = tt
+  ended point s (Some f) h x = failing point s f h x
 
-  of_graph : (visits : List Visit) (end : Option Failure) → GraphVisits g visits end → All (IsToldVisit g states) visits × IsToldEnd g states end
+  of_graph : (visits : List Visit) (end : Option Failure) → GraphVisits g visits end → All (IsToldVisit g states) visits × IsToldEnd (told_by p g heads states) end
   of_graph visits end x =
       let first = begins x.begins in
       let all = reached 0 x.first x.others x.point x.last x.runs first in
       (subst (All (IsToldVisit g states)) (sym x.visits_are) (All-cons (IsToldVisit g states) (visit_at g 0 x.first) x.others (told 0 x.first first) all.0), ended x.point x.last end all.1 x.ends)
 
   -- what is told where a turn begins
-  turned : (p : Program) (turns : ℕ → List TurnPoint) → TurnsAreAt p g turns → TurnsAreTold p g states turns
-  turned p turns law choice first last visits here behind loop a starts goes is =
+  turned : TurnsAreAt p g (graph_turns p.unit p.paths) → TurnsAreTold p (told_by p g heads states)
+  turned law choice first last visits here behind loop a starts goes is =
       let t = law choice first last visits here behind loop a starts goes is in
       let all = reached 0 t.2.first visits t.0 t.2.store t.2.runs (begins t.2.begins) in
       (t.0, t.1, subst (IsToldOf g states t.0) t.2.visit (told_of t.0 t.2.store all.1))
 
-pub true_of : (g : GraphOf) (states : List Stated) (p : Program) → IsGraph g → AreTrueOf g states → ((v : ℕ) → SharesAccesses v (point_at g v).edges) → HaveSameVisits p g → IsNeverStuck p → NoneTwice (accesses_of g) → OperationsAreEvaluated p g
-    → AccessesThemselvesAreEvaluated p g → TurnsAreAt p g (graph_turns p.unit p.paths) → ((path : ℕ) → BeginsAtOne (graph_turns p.unit p.paths path)) → TurnsAreHeads g (IsPlainLoop p.unit p.paths) (graph_turns p.unit p.paths) → IsTrueOfProgram p g states
-true_of g states p made t share same on once all themselves turns one heads = record {
+pub true_of : (g : GraphOf) (heads : List ℕ) (states : List Stated) (p : Program) → IsGraph g → AreTrueStates g states → ((v : ℕ) → SharesAccesses v (point_at g v).edges) → HaveSameVisits p g → IsNeverStuck p → NoneTwice (accesses_of g) → OperationsAreEvaluated p g
+    → AccessesThemselvesAreEvaluated p g → TurnsAreAt p g (graph_turns p.unit p.paths) → ((path : ℕ) → BeginsAtOne (graph_turns p.unit p.paths path)) → TurnsAreHeads g (IsPlainLoop p.unit p.paths) (graph_turns p.unit p.paths) → IsTrueOfProgram p (told_by p g heads states)
+true_of g heads states p made t share same on once all themselves turns one plain = record {
+  holds = record {
+    goes_on = on;
+    visits = λ visits end x. (of_graph p g heads states made t share visits end (same.forward visits end x)).0;
+    faults = λ visits end x. (of_graph p g heads states made t share visits end (same.forward visits end x)).1;
+    lines = once;
+    computed = reached_or_constant p g heads states t all;
+    unreachable = none_computes p g heads states t themselves;
+    turns = turned p g heads states made t share turns;
+    one_point = one;
+  };
   runs = same;
-  goes_on = on;
   points = t;
-  walks = λ visits end x. walked g states made t share visits end (same.forward visits end x);
-  visits = λ visits end x. (of_graph g states made t share visits end (same.forward visits end x)).0;
-  faults = λ visits end x. (of_graph g states made t share visits end (same.forward visits end x)).1;
-  lines = once;
-  computed = reached_by p g states t all;
-  unreachable = none_computes p g states t themselves;
-  turns = turned g states made t share p (graph_turns p.unit p.paths) turns;
-  one_point = one;
-  heads = heads;
+  walks = λ visits end x. walked p g heads states made t share visits end (same.forward visits end x);
+  computed = reached_by p g heads states t all;
+  heads = plain;
 }

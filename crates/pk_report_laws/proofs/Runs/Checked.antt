@@ -29,7 +29,7 @@ use Rattle.pk_sound.proofs.Accesses.{points_are_there}
 use Rattle.pk_cert_check.specs.Checked.{known_by, HoldStates}
 use Rattle.pk_cert_laws.specs.Runs.{CheckedCellsHoldRuns, HoldRuns}
 use Rattle.pk_cert_report.specs.Checked.{reduced_states}
-use Rattle.pk_report_laws.specs.Runs.True.{CheckedCellsAreTrue, IsUnknownIn}
+use Rattle.pk_report_laws.specs.Runs.True.{CheckedCellsAreTrue, IsUnknown, verdict_by}
 use Rattle.pk_report_laws.proofs.Runs.Telling.{there}
 
 module _ (g : GraphOf) (l : Layout) (cells : List (Cell Stated)) (made : IsGraph g) (hold : HoldStates l (length g.points) cells) (h : HoldRuns g l (known_by l cells)) where
@@ -55,10 +55,10 @@ module _ (g : GraphOf) (l : Layout) (cells : List (Cell Stated)) (made : IsGraph
       h.bounds a lo hi has (sym (verdict_is a at) ∙ is)
 
   faults : (v : ℕ) (s : Stored) (e : EdgeOf) (chosen : Numbers) (w : Failure) → Reaches g v s → Contains (point_at g v).edges e → effect storing chosen e.instr s ≡ Faulted w
-      → ((a : AccessOf) × IsFailing v e.instr w s a × IsUnknownIn (reduced_states l cells) v a) ⊎ IsHidden e.instr w.site s
+      → ((a : AccessOf) × IsFailing v e.instr w s a × IsUnknown (verdict_by (reduced_states l cells)) v a.operation) ⊎ IsHidden e.instr w.site s
   faults v s e chosen w r has fails = by (h.faults v s e chosen w r has fails)
     where
-      by : ((a : AccessOf) × IsFailing v e.instr w s a × IsUnknownBy l (known_by l cells v) a) ⊎ IsHidden e.instr w.site s → ((a : AccessOf) × IsFailing v e.instr w s a × IsUnknownIn (reduced_states l cells) v a) ⊎ IsHidden e.instr w.site s
+      by : ((a : AccessOf) × IsFailing v e.instr w s a × IsUnknownBy l (known_by l cells v) a) ⊎ IsHidden e.instr w.site s → ((a : AccessOf) × IsFailing v e.instr w s a × IsUnknown (verdict_by (reduced_states l cells)) v a.operation) ⊎ IsHidden e.instr w.site s
       by (inl (a, f, (lo, hi, is))) = inl (a, f, (lo, hi, ap (λ (t : Stated). verdict_of t.layout t.facts a.operation) (state_is v (there g v s made r)) ∙ is))
       by (inr hidden) = inr hidden
 

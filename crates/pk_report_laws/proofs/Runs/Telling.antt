@@ -30,7 +30,7 @@ use Rattle.pk_sound.specs.Verdicts.{FaultsIn, IsEvaluatedIn, VerdictsHold}
 use Rattle.pk_sound.specs.Bounds.{IsDecidedWithin, BoundsHold}
 use Rattle.pk_sound.specs.Faults.{IsHidden, IsFailing, IsUnknownAt, FaultsAreUnknown}
 use Rattle.pk_sound.proofs.Accesses.{points_are_there}
-use Rattle.pk_report_laws.specs.Runs.True.{IsUnknownIn, ReportsAreTrue}
+use Rattle.pk_report_laws.specs.Runs.True.{IsUnknown, verdict_by, ReportsAreTrue}
 
 -- a run comes to points of the graph alone
 pub there : (g : GraphOf) (v : ℕ) (s : Stored) → IsGraph g → Reaches g v s → v < length g.points
@@ -84,14 +84,14 @@ module _ (g : GraphOf) (o : Options) (most : ℕ) (p : PlanView) (states : List 
       let at = All-contains (λ (b : AccessOf). b.point < length g.points) (accesses_of g) a (points_are_there g made) has in
       law g o p x.order x.flow most x.outcome analysed a lo hi has (sym (verdict_is a at) ∙ is)
 
-  unknown_is : (v : ℕ) (a : AccessOf) → v < length g.points → IsUnknownAt x.flow x.outcome v a → IsUnknownIn states v a
+  unknown_is : (v : ℕ) (a : AccessOf) → v < length g.points → IsUnknownAt x.flow x.outcome v a → IsUnknown (verdict_by states) v a.operation
   unknown_is v a l (lo, hi, is) = (lo, hi, ap (λ (t : Stated). verdict_of t.layout t.facts a.operation) (state_is v l) ∙ is)
 
   faults : FaultsAreUnknown → (v : ℕ) (s : Stored) (e : EdgeOf) (chosen : Numbers) (w : Failure) → Reaches g v s → Contains (point_at g v).edges e → effect storing chosen e.instr s ≡ Faulted w
-      → ((a : AccessOf) × IsFailing v e.instr w s a × IsUnknownIn states v a) ⊎ IsHidden e.instr w.site s
+      → ((a : AccessOf) × IsFailing v e.instr w s a × IsUnknown (verdict_by states) v a.operation) ⊎ IsHidden e.instr w.site s
   faults law v s e chosen w h has fails = by (law g o p x.order x.flow most x.outcome analysed v s e chosen w h has fails)
     where
-      by : ((a : AccessOf) × IsFailing v e.instr w s a × IsUnknownAt x.flow x.outcome v a) ⊎ IsHidden e.instr w.site s → ((a : AccessOf) × IsFailing v e.instr w s a × IsUnknownIn states v a) ⊎ IsHidden e.instr w.site s
+      by : ((a : AccessOf) × IsFailing v e.instr w s a × IsUnknownAt x.flow x.outcome v a) ⊎ IsHidden e.instr w.site s → ((a : AccessOf) × IsFailing v e.instr w s a × IsUnknown (verdict_by states) v a.operation) ⊎ IsHidden e.instr w.site s
       by (inl (a, f, u)) = inl (a, f, unknown_is v a (there g v s made h) u)
       by (inr hidden) = inr hidden
 

@@ -3,7 +3,7 @@ use Rattle.std.specs.Prelude.{◌≡◌, ℕ, ◌<◌, ◌^◌, List, Some}
 use Rattle.pk_ctypes.specs.declared.faults.Fault.{Fault}
 use Rattle.pk_typed.specs.Trees.{UnitTree}
 use Rattle.pk_calls.specs.declared.listings.CallPath.{CallPath}
-use Rattle.pk_front.specs.Texts.{HasPaths}
+use Rattle.pk_front.specs.Programs.{IsProgram}
 use Rattle.pk_graph.specs.declared.trees.Site.{Site}
 use Rattle.pk_graph.specs.Graphs.{GraphOf}
 use Rattle.pk_graph.specs.Steps.{Numbers}
@@ -15,7 +15,7 @@ use Rattle.pk_graph_report.specs.Reported.{verdicts_of}
 use Rattle.pk_solver.specs.Solved.{AreStates}
 use Rattle.pk_text_graph.specs.Graphs.{HasGraph}
 use Rattle.pk_cert_report.specs.Checked.{IsValid}
-use Rattle.pk_report_laws.specs.Runs.True.{AreTrueOf}
+use Rattle.pk_report_laws.specs.Runs.True.{AreTrueStates}
 use Rattle.pk_meaning.specs.Programs.{Program}
 use Rattle.pk_meaning.specs.Runs.{Visit, start, Runs}
 use Rattle.pk_meaning.specs.Steps.{Config, Faulted, step}
@@ -29,13 +29,13 @@ NoRunFails p =
 -- The text, begun with this function, is a program of which no run fails. It is one program at most.
 abbrev pub IsFaultless : (text entry : List ℕ) → Type 0
 IsFaultless text entry =
-    (unit : UnitTree) (paths : List CallPath) → HasPaths text entry unit paths →
+    (unit : UnitTree) (paths : List CallPath) → IsProgram text entry unit paths →
     NoRunFails (record { unit = unit; paths = paths })
 
 -- A text is so where states of its graph's points are true of its runs, and no verdict by them is unknown.
 abbrev pub TrueStatesAreFaultless : Type 0
 TrueStatesAreFaultless =
-    (text entry : List ℕ) (g : GraphOf) → HasGraph text entry g → (states : List Stated) → AreTrueOf g states →
+    (text entry : List ℕ) (g : GraphOf) → HasGraph text entry g → (states : List Stated) → AreTrueStates g states →
     unknown_in (verdicts_of g states) ≡ 0 → IsFaultless text entry
 
 -- So where the report on its graph has no unknown verdict.

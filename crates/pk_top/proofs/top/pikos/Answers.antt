@@ -1,6 +1,6 @@
 use Rattle.std.proofs.Common.{map, string_bytes, ap, Err}
 use Rattle.pk_top.proofs.Replies.{ended_so, complete_so}
-use Rattle.pk_top.proofs.Truthful.{no_fault, no_success, truthful}
+use Rattle.pk_top.proofs.Truthful.{holding, no_fault, no_success, pointing, truthful}
 use Rattle.pk_top.proofs.top.pikos.Goals as goal
 
 pub returns-in-Err-clause-answer : goal.returns-in-Err-clause-answer
@@ -30,6 +30,30 @@ pub returns-in-Ok-write_all-clause-truth : goal.returns-in-Ok-write_all-clause-t
 returns-in-Ok-write_all-clause-truth g c = λ text about unknown is.
     truthful c.reports_are_true_of_programs.ensures c.checks_are_true_of_programs.ensures (map string_bytes c.args.words.now) text c.in-Ok.made.1 unknown c.in-Ok.made.0.items c.deref.result.now (g.K.Sink.written c.args.out.now) (g.K.Sink.written c.write_all.new.out)
     is c.in-Ok.ensures.range (c.in-Ok.ensures.made text about) c.deref.ensures.value c.in-Ok-write_all.ensures.all
+
+pub returns-in-Err-clause-holds : goal.returns-in-Err-clause-holds
+returns-in-Err-clause-holds g c = λ text about unknown is. absurd (no_success c.in-Err.status unknown c.in-Err.ensures.stop is)
+
+pub returns-clause-holds : goal.returns-clause-holds
+returns-clause-holds g c = λ text about unknown is. absurd (cc)
+
+pub returns-in-Ok-write_all-clause-holds : goal.returns-in-Ok-write_all-clause-holds
+returns-in-Ok-write_all-clause-holds g c = λ text about unknown is.
+    holding c.accepted_are_programs.ensures (map string_bytes c.args.words.now) text unknown (g.K.Sink.written c.args.out.now) (g.K.Sink.written c.write_all.new.out)
+    (truthful c.reports_are_true_of_programs.ensures c.checks_are_true_of_programs.ensures (map string_bytes c.args.words.now) text c.in-Ok.made.1 unknown c.in-Ok.made.0.items c.deref.result.now (g.K.Sink.written c.args.out.now) (g.K.Sink.written c.write_all.new.out)
+    is c.in-Ok.ensures.range (c.in-Ok.ensures.made text about) c.deref.ensures.value c.in-Ok-write_all.ensures.all)
+
+pub returns-in-Err-clause-points : goal.returns-in-Err-clause-points
+returns-in-Err-clause-points g c = λ text about unknown is. absurd (no_success c.in-Err.status unknown c.in-Err.ensures.stop is)
+
+pub returns-clause-points : goal.returns-clause-points
+returns-clause-points g c = λ text about unknown is. absurd (cc)
+
+pub returns-in-Ok-write_all-clause-points : goal.returns-in-Ok-write_all-clause-points
+returns-in-Ok-write_all-clause-points g c = λ text about unknown is.
+    pointing c.accepted_are_programs.ensures (map string_bytes c.args.words.now) text unknown (g.K.Sink.written c.args.out.now) (g.K.Sink.written c.write_all.new.out)
+    (truthful c.reports_are_true_of_programs.ensures c.checks_are_true_of_programs.ensures (map string_bytes c.args.words.now) text c.in-Ok.made.1 unknown c.in-Ok.made.0.items c.deref.result.now (g.K.Sink.written c.args.out.now) (g.K.Sink.written c.write_all.new.out)
+    is c.in-Ok.ensures.range (c.in-Ok.ensures.made text about) c.deref.ensures.value c.in-Ok-write_all.ensures.all)
 
 pub returns-in-Err-clause-no_fault : goal.returns-in-Err-clause-no_fault
 returns-in-Err-clause-no_fault g c = λ text about is. absurd (no_success c.in-Err.status 0 c.in-Err.ensures.stop is)
