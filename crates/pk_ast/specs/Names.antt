@@ -5,7 +5,7 @@ use Rattle.pk_ast.specs.declared.declarations.Specifier.{Specifier}
 use Rattle.pk_ast.specs.declared.declarations.SpecifierWord.{SpecifierWord}
 use Rattle.pk_ast.specs.declared.declarations.SpecifierWord.TheVariants as word
 use Rattle.pk_ast.specs.declared.expressions.Identifier.{Identifier}
-use Rattle.pk_ast.specs.Trees.{OneOrMore, ExpressionTree, name, call, index, element, constant, character, parenthesized, postfix, prefix, unary, cast, binary, conditional, assignment, comma, ExpressionTrees, no_expressions, expression_then, InitializerItemTree, item_value, item_row, InitializerTree, single, braced, DimensionsTree, DeclaratorTree, EnumeratorTree, EnumerationTree, DeclarationTree, ForStartTree, declaration, expression, StatementTree, block, empty, expression_statement, label, case, default, if_then, if_else, switch, while, do_while, for_loop, goto, continue, break, return, ItemTrees, no_items, declaration_then, statement_then, BlockTree, ParameterTree, ExternalTree, function, objects, type_names}
+use Rattle.pk_ast.specs.Trees.{OneOrMore, ExpressionTree, name, call, index, element, constant, character, parenthesized, postfix, prefix, unary, cast, binary, conditional, assignment, comma, ExpressionTrees, no_expressions, expression_then, InitializerItemTree, item_value, item_row, InitializerTree, single, braced, DimensionsTree, DeclaratorTree, EnumeratorTree, EnumerationTree, DeclarationTree, ForStartTree, declaration, expression, StatementTree, block, empty, expression_statement, label, case, default, if_then, if_else, switch, while, do_while, for_loop, goto, continue, break, return, ItemTrees, no_items, declaration_then, statement_then, BlockTree, BracketsTree, ParameterTree, ExternalTree, function, objects, type_names}
 
 -- the name that stands there
 abbrev pub name_at : ℕ → ℕ → Pos → Identifier
@@ -135,9 +135,14 @@ abbrev pub optional_name : Option Identifier → List Identifier
 optional_name None = []
 optional_name (Some x) = x ∷ []
 
+abbrev pub brackets_names : Option BracketsTree → List Identifier
+brackets_names None = []
+brackets_names (Some b) = optional_names b.length ++ optional_names b.columns
+
 abbrev pub parameter_names : List ParameterTree → List Identifier
 parameter_names [] = []
-parameter_names (p ∷ ps) = (specifier_names p.specifiers ++ optional_name p.name) ++ parameter_names ps
+parameter_names (p ∷ ps) =
+    (specifier_names p.specifiers ++ (optional_name p.name ++ brackets_names p.brackets)) ++ parameter_names ps
 
 abbrev pub external_names : ExternalTree → List Identifier
 external_names (function f) =

@@ -111,9 +111,15 @@ pub record BlockTree : Type 0 where
   pub items : ItemTrees
   pub closed : Pos
 
+-- what makes a parameter one of an array: its length, which may be left out, and its columns (C99 6.7.5.3)
+pub record BracketsTree : Type 0 where
+  pub length : Option ExpressionTree
+  pub columns : Option ExpressionTree
+
 pub record ParameterTree : Type 0 where
   pub specifiers : OneOrMore Specifier
   pub name : Option Identifier
+  pub brackets : Option BracketsTree
 
 pub record FunctionTree : Type 0 where
   pub storage : Option Storage

@@ -23,13 +23,14 @@ use Rattle.pk_ast.specs.declared.statements.Block as declared_block
 use Rattle.pk_ast.specs.declared.statements.Block.{Row_of-BlockItem, end_of-BlockItem, more_of-BlockItem}
 use Rattle.pk_ast.specs.declared.statements.BlockItem.{BlockItem}
 use Rattle.pk_ast.specs.declared.statements.BlockItem.TheVariants as items
+use Rattle.pk_ast.specs.declared.units.Brackets.{Brackets}
 use Rattle.pk_ast.specs.declared.units.Parameter.{Parameter}
 use Rattle.pk_ast.specs.declared.units.Function.{Function}
 use Rattle.pk_ast.specs.declared.units.External.{External}
 use Rattle.pk_ast.specs.declared.units.Typedef.{Typedef}
 use Rattle.pk_ast.specs.declared.units.External.TheVariants as externals
 use Rattle.pk_ast.specs.declared.units.Unit as declared_unit
-use Rattle.pk_ast.specs.Trees.{OneOrMore, ExpressionTree, ExpressionTrees, InitializerItemTree, InitializerTree, DimensionsTree, DeclaratorTree, EnumeratorTree, EnumerationTree, DeclarationTree, ForStartTree, StatementTree, ItemTrees, BlockTree, ParameterTree, FunctionTree, TypedefTree, ExternalTree}
+use Rattle.pk_ast.specs.Trees.{OneOrMore, ExpressionTree, ExpressionTrees, InitializerItemTree, InitializerTree, DimensionsTree, DeclaratorTree, EnumeratorTree, EnumerationTree, DeclarationTree, ForStartTree, StatementTree, ItemTrees, BlockTree, BracketsTree, ParameterTree, FunctionTree, TypedefTree, ExternalTree}
 use Rattle.pk_ast.specs.Trees.{name, call, index, element, constant, character, parenthesized, postfix, prefix, unary, cast, binary, conditional, assignment, comma, no_expressions, expression_then, item_value, item_row, single, braced}
 use Rattle.pk_ast.specs.Trees.{declaration, expression, block, empty, expression_statement, label, case, default, if_then, if_else, switch, while, do_while, for_loop, goto, continue, break, return, no_items, declaration_then, statement_then, function, objects, type_names}
 
@@ -163,8 +164,17 @@ item_trees (items.Statement s ∷ rest) = statement_then (statement_tree s) (ite
 unfoldable pub block_tree : declared_block.Block → BlockTree
 block_tree b = record { opened = b.open; items = item_trees b.items.items; closed = b.close }
 
+unfoldable pub brackets_tree : Brackets → BracketsTree
+brackets_tree b =
+    record { length = option_map expression_tree b.length; columns = option_map expression_tree b.columns }
+
 unfoldable pub parameter_tree : Parameter → ParameterTree
-parameter_tree p = record { specifiers = specifiers_tree p.specifiers; name = p.name }
+parameter_tree p =
+    record {
+      specifiers = specifiers_tree p.specifiers;
+      name = p.name;
+      brackets = option_map brackets_tree p.brackets;
+    }
 
 abbrev pub parameter_trees : List Parameter → List ParameterTree
 parameter_trees = map parameter_tree

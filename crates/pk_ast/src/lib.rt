@@ -18,4 +18,4 @@ pub use declarations::{
 pub use expressions::{ElementName, Expression, Identifier};
 pub use operators::{AssignmentOperator, BinaryOperator, StepOperator, UnaryOperator};
 pub use statements::{Block, BlockItem, ForHead, ForStart, Statement};
-pub use units::{External, Function, Parameter, Storage, StorageWord, Typedef, Unit};
+pub use units::{Brackets, External, Function, Parameter, Storage, StorageWord, Typedef, Unit};

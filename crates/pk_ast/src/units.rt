@@ -7,6 +7,8 @@ ghost use Rattle.pk_ast.specs.Views.{
   declaration_tree,
   enumeration_tree,
   block_tree,
+  expression_tree,
+  brackets_tree,
   parameter_tree,
   parameter_trees,
   function_tree,
@@ -18,7 +20,7 @@ ghost use Rattle.pk_ast.specs.Views.{
 
 use crate::boxes::boxed_if_some;
 use crate::declarations::{Declaration, Enumeration, Specifiers};
-use crate::expressions::Identifier;
+use crate::expressions::{Expression, Identifier};
 use crate::statements::Block;
 use pk_ctypes::Pos;
 use std::alloc::{AllocError, Global};
@@ -37,11 +39,19 @@ pub struct Storage {
     pub at: Pos,
 }
 
-/// A parameter: the words of its type, and its name where it has one.
+/// What makes a parameter one of an array: its length, which may be left out, and its columns.
+#[derive(Drop)]
+pub struct Brackets {
+    pub length: Option<Expression>,
+    pub columns: Option<Expression>,
+}
+
+/// A parameter: the words of its type, its name where it has one, and its brackets where it is one of an array.
 #[derive(Drop)]
 pub struct Parameter {
     pub specifiers: Specifiers,
     pub name: Option<Identifier>,
+    pub brackets: Option<Brackets>,
 }
 
 /// A function, declared or, where it has a body, defined. A parameter list that is empty or `void` alone has no parameter.
@@ -77,12 +87,36 @@ pub struct Unit {
     pub externals: Vec<External>,
 }
 
+#[tactic(auto, unfolding(crate::specs::Views::brackets_tree))]
+impl Brackets {
+    pub fn new(length: Option<Expression>, columns: Option<Expression>) -> Brackets
+        ensures { brackets_tree result ≡ record {
+          length = option_map expression_tree length;
+          columns = option_map expression_tree columns;
+        } }
+    {
+        Brackets { length, columns }
+    }
+}
+
 #[tactic(auto, unfolding(crate::specs::Views::parameter_tree))]
 impl Parameter {
-    pub fn new(specifiers: Specifiers, name: Option<Identifier>) -> Parameter
-        ensures { parameter_tree result ≡ record { specifiers = specifiers_tree specifiers; name = name } }
+    pub fn new(
+        specifiers: Specifiers,
+        name: Option<Identifier>,
+        brackets: Option<Brackets>,
+    ) -> Parameter
+        ensures { parameter_tree result ≡ record {
+          specifiers = specifiers_tree specifiers;
+          name = name;
+          brackets = option_map brackets_tree brackets;
+        } }
     {
-        Parameter { specifiers, name }
+        Parameter {
+            specifiers,
+            name,
+            brackets,
+        }
     }
 }
 

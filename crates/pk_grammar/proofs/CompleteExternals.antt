@@ -1,5 +1,5 @@
 -- Each text of the grammar is read.
-use Rattle.std.proofs.Common.{◌≡◌, ◌≢◌, inl, inr, Option, Some, None, false, true, List, [], ◌∷◌, ◌++◌, refl, sym, ap, subst, ◌∙◌, append_assoc, append-nil}
+use Rattle.std.proofs.Common.{◌≡◌, ◌≢◌, ℕ, inl, inr, Option, Some, None, false, true, List, [], ◌∷◌, ◌++◌, refl, sym, ap, subst, ◌∙◌, arith, append_assoc, append-nil}
 use Rattle.pk_ctypes.specs.declared.places.Pos.{Pos}
 use Rattle.pk_lex.specs.declared.token.Token.{Token}
 use Rattle.pk_lex.specs.declared.token.Kind.TheVariants as kind
@@ -10,19 +10,19 @@ use Rattle.pk_ast.specs.declared.declarations.SpecifierWord.{SpecifierWord}
 use Rattle.pk_ast.specs.declared.declarations.SpecifierWord.TheVariants as word
 use Rattle.pk_ast.specs.declared.expressions.Identifier.{Identifier}
 use Rattle.pk_ast.specs.declared.units.Storage.{Storage}
-use Rattle.pk_ast.specs.Trees.{OneOrMore, no_items, EnumerationTree, BlockTree, ParameterTree, FunctionTree, TypedefTree, ExternalTree, function, objects, type_names}
+use Rattle.pk_ast.specs.Trees.{OneOrMore, ExpressionTree, no_items, EnumerationTree, BlockTree, BracketsTree, ParameterTree, FunctionTree, TypedefTree, ExternalTree, function, objects, type_names}
 use Rattle.pk_ast.specs.Lists.{one, with_last}
 use Rattle.pk_grammar.specs.declared.signs.Fixed.TheVariants as fixed
 use Rattle.pk_grammar.specs.Languages.{Marked, ◌⊙◌, identifier_of}
-use Rattle.pk_grammar.specs.Grammar.{stored, optional_name, parameter, IsVoidAlone, more_parameters, parameters, function_end, statement, more_names, type_words, external, externals}
+use Rattle.pk_grammar.specs.Grammar.{array_length, stored, optional_name, open_length, brackets, parameter, IsVoidAlone, more_parameters, parameters, function_end, statement, more_names, type_words, external, externals}
 use Rattle.pk_grammar.specs.Machine.Signs.{is_fixed, specifier_word, storage_word, is_void_word, specifier_in}
-use Rattle.pk_grammar.specs.Machine.States.{Head, function_block, outside, in_typedef, State, top, after_storage, after_typedef, type_specifiers, after_type_name, type_name_comma, after_braces, after_specifiers, after_name, parameters_open, parameter_specifiers, parameter_name, parameter_comma, parameters_closed, block_item}
-use Rattle.pk_grammar.specs.Machine.Steps.{taken, refused, step, read, ends, specifier_at, storage_or_specifier, begin_external, begin_typedef, more_typedef, begin_parameter, more_parameter, is_void_alone, last_parameter, end_block, next_word, end_in_enum}
+use Rattle.pk_grammar.specs.Machine.States.{Head, function_block, outside, in_typedef, Receiving, as_parameter_length, as_parameter_columns, as_whole, State, operand, complete, top, after_storage, after_typedef, type_specifiers, after_type_name, type_name_comma, after_braces, after_specifiers, after_name, parameters_open, parameter_specifiers, parameter_name, parameter_bracket, parameter_length, parameter_end, parameter_comma, parameters_closed, block_item}
+use Rattle.pk_grammar.specs.Machine.Steps.{taken, refused, reduced, step, read, ends, with_brackets, close_brackets, specifier_at, storage_or_specifier, begin_external, begin_typedef, more_typedef, begin_parameter, more_parameter, is_void_alone, words_alone, last_parameter, receiving, end_block, next_word, end_in_enum}
 use Rattle.pk_grammar.proofs.WordLemmas.{no_sign, no_name, ends_in_no_enum, opens_braces}
 use Rattle.pk_grammar.proofs.CompleteLists.{tokens_of, nestings_of, before, Reads, reads_both, reads_one, reads_none, reads_head, reads_sign, reads_last, reads_join_none}
-use Rattle.pk_grammar.proofs.CompleteSigns.{storage_is, specifier_alone}
-use Rattle.pk_grammar.proofs.CompleteOperands.{IsAt, same_false, same_true}
-use Rattle.pk_grammar.proofs.CompleteExpressions.{ReadsTo, reads_words, reads_specifiers}
+use Rattle.pk_grammar.proofs.CompleteSigns.{storage_is, specifier_alone, sign_close_bracket}
+use Rattle.pk_grammar.proofs.CompleteOperands.{IsAt, ends_at_sign, same_false, same_true}
+use Rattle.pk_grammar.proofs.CompleteExpressions.{from_operand, readable, ReadsTo, reads_words, reads_specifiers}
 use Rattle.pk_grammar.proofs.CompleteEnumerations.{step_open_type_braces, step_type_behind, reads_braces}
 use Rattle.pk_grammar.proofs.CompleteDeclarations.{step_first_name, step_more_specifiers, TakesType, reads_declared}
 use Rattle.pk_grammar.proofs.CompleteBodies.{items_read, filled_function}
@@ -61,9 +61,6 @@ open_takes h t w e = same_false (is_fixed fixed.CloseParenthesis t.kind) _ _ (sp
 comma_takes : (h : Head) (ps : List ParameterTree) → TakesParameter (parameter_comma h ps) h ps
 comma_takes h ps t w e = ap (λ o. begin_parameter h ps t o) e
 
-abbrev with_name : OneOrMore Specifier → Option Identifier → ParameterTree
-with_name specs n = record { specifiers = specs; name = n }
-
 -- a parameter that may be the last one
 abbrev IsNone : List ParameterTree → ParameterTree → Type 0
 IsNone ps p = (ps ≡ []) × IsVoidAlone p
@@ -74,15 +71,15 @@ record ReadsParameter (q : State) (h : Head) (ps : List ParameterTree) (p : Para
   comma : (t : Token) → t.kind ≡ kind.Punctuator mark.Comma → step state t ≡ taken 1 (parameter_comma h (ps ++ p ∷ []))
   close : (t : Token) → t.kind ≡ kind.Punctuator mark.CloseParenthesis → ¬ IsNone ps p → step state t ≡ taken 0 (parameters_closed h (ps ++ p ∷ []))
 
-no_void : (s : Specifier) (w : SpecifierWord) → s.word ≡ w → ¬ IsVoidAlone (with_name (one s) None) → is_void_word w ≡ false
-no_void s word.Void e h = absurd (h (e, refl, refl))
+no_void : (s : Specifier) (w : SpecifierWord) → s.word ≡ w → ¬ IsVoidAlone (words_alone (one s)) → is_void_word w ≡ false
+no_void s word.Void e h = absurd (h (e, refl, refl, refl))
 no_void s _ e h = refl
 
-no_void_alone : (s : Specifier) (more : List Specifier) → ¬ IsVoidAlone (with_name (record { first = s; more = more }) None) → is_void_alone s.word more ≡ false
+no_void_alone : (s : Specifier) (more : List Specifier) → ¬ IsVoidAlone (words_alone (record { first = s; more = more })) → is_void_alone s.word more ≡ false
 no_void_alone s [] h = no_void s s.word refl h
 no_void_alone s (r ∷ more) h = refl
 
-last_is : (ps : List ParameterTree) (specs : OneOrMore Specifier) → ¬ IsNone ps (with_name specs None) → last_parameter ps specs ≡ ps ++ with_name specs None ∷ []
+last_is : (ps : List ParameterTree) (specs : OneOrMore Specifier) → ¬ IsNone ps (words_alone specs) → last_parameter ps specs ≡ ps ++ words_alone specs ∷ []
 last_is [] specs h = rw (no_void_alone specs.first specs.more (λ v. h (refl, v)))
 last_is (p ∷ ps) specs h = refl
 
@@ -91,12 +88,16 @@ pub step_more_parameter : (h : Head) (ps : List ParameterTree) (specs : OneOrMor
 step_more_parameter h ps specs t w e = ap (λ w. more_parameter h ps specs t w) e
 
 step_parameter_name : (h : Head) (ps : List ParameterTree) (specs : OneOrMore Specifier) (id : Identifier) (t : Token) → end_in_enum specs ≡ false → (t.kind ≡ kind.Name) × (identifier_of t ≡ id) →
-    step (parameter_specifiers h ps specs) t ≡ taken 1 (parameter_name h ps (with_name specs (Some id)))
+    step (parameter_specifiers h ps specs) t ≡ taken 1 (parameter_name (receiving h ps specs (Some id)))
 step_parameter_name h ps specs id t f e =
-    ap (λ w. more_parameter h ps specs t w) (no_name specs t f e.0) ∙ same_false (end_in_enum specs) _ _ f ∙ rw e.0 (ap (λ i. taken 1 (parameter_name h ps (with_name specs (Some i)))) e.1)
+    ap (λ w. more_parameter h ps specs t w) (no_name specs t f e.0) ∙ same_false (end_in_enum specs) _ _ f ∙ rw e.0 (ap (λ i. taken 1 (parameter_name (receiving h ps specs (Some i)))) e.1)
+
+pub step_unnamed_bracket : (h : Head) (ps : List ParameterTree) (specs : OneOrMore Specifier) (t : Token) → end_in_enum specs ≡ false → t.kind ≡ kind.Punctuator mark.OpenBracket →
+    step (parameter_specifiers h ps specs) t ≡ taken 2 (parameter_bracket (receiving h ps specs None))
+step_unnamed_bracket h ps specs t f e = ap (λ w. more_parameter h ps specs t w) (no_sign specs t mark.OpenBracket e) ∙ same_false (end_in_enum specs) _ _ f ∙ rw e
 
 step_unnamed_comma : (h : Head) (ps : List ParameterTree) (specs : OneOrMore Specifier) (t : Token) → end_in_enum specs ≡ false → t.kind ≡ kind.Punctuator mark.Comma →
-    step (parameter_specifiers h ps specs) t ≡ taken 1 (parameter_comma h (ps ++ with_name specs None ∷ []))
+    step (parameter_specifiers h ps specs) t ≡ taken 1 (parameter_comma h (ps ++ words_alone specs ∷ []))
 step_unnamed_comma h ps specs t f e = ap (λ w. more_parameter h ps specs t w) (no_sign specs t mark.Comma e) ∙ same_false (end_in_enum specs) _ _ f ∙ rw e
 
 pub step_unnamed_close : (h : Head) (ps : List ParameterTree) (specs : OneOrMore Specifier) (t : Token) → end_in_enum specs ≡ false → t.kind ≡ kind.Punctuator mark.CloseParenthesis →
@@ -108,37 +109,103 @@ pub step_no_parameter : (h : Head) (ps : List ParameterTree) (specs : OneOrMore 
     step (parameter_specifiers h ps specs) t ≡ refused
 step_no_parameter h ps specs t e f = ap (λ w. more_parameter h ps specs t w) e ∙ same_true (end_in_enum specs) _ _ f
 
-step_named_comma : (h : Head) (ps : List ParameterTree) (p : ParameterTree) (t : Token) → t.kind ≡ kind.Punctuator mark.Comma → step (parameter_name h ps p) t ≡ taken 1 (parameter_comma h (ps ++ p ∷ []))
-step_named_comma h ps p t e = rw e
+-- Brackets
 
-step_named_close : (h : Head) (ps : List ParameterTree) (p : ParameterTree) (t : Token) → t.kind ≡ kind.Punctuator mark.CloseParenthesis →
-    step (parameter_name h ps p) t ≡ taken 0 (parameters_closed h (ps ++ p ∷ []))
-step_named_close h ps p t e = rw e
+-- a state behind everything that stands before a parameter's brackets
+record CanBracket (q : State) (d : Receiving) : Type 0 where
+  bracket : (t : Token) → t.kind ≡ kind.Punctuator mark.OpenBracket → step q t ≡ taken 2 (parameter_bracket d)
+  comma : (t : Token) → t.kind ≡ kind.Punctuator mark.Comma → step q t ≡ taken 1 (parameter_comma d.head (d.before ++ with_brackets d None ∷ []))
+  close : (t : Token) → t.kind ≡ kind.Punctuator mark.CloseParenthesis → ¬ IsNone d.before (with_brackets d None) →
+      step q t ≡ taken 0 (parameters_closed d.head (d.before ++ with_brackets d None ∷ []))
+
+record ReadsName (q : State) (d : Receiving) (ms : List Marked) (rest : List Token) : Type 0 where
+  state : State
+  reads : Reads q ms state rest
+  can : CanBracket state d
 
 reads_name : (h : Head) (ps : List ParameterTree) (specs : OneOrMore Specifier) (n : Option Identifier) (ms : List Marked) (rest : List Token) → end_in_enum specs ≡ false → optional_name n 1 ms →
-    ReadsParameter (parameter_specifiers h ps specs) h ps (with_name specs n) ms rest
+    ReadsName (parameter_specifiers h ps specs) (receiving h ps specs n) ms rest
 reads_name h ps specs None ms rest whole is = record {
   state = parameter_specifiers h ps specs;
   reads = reads_none is;
-  comma = λ t e. step_unnamed_comma h ps specs t whole e;
-  close = λ t e f. step_unnamed_close h ps specs t whole e ∙ ap (λ ps. taken 0 (parameters_closed h ps)) (last_is ps specs f);
+  can = record {
+    bracket = λ t e. step_unnamed_bracket h ps specs t whole e;
+    comma = λ t e. step_unnamed_comma h ps specs t whole e;
+    close = λ t e f. step_unnamed_close h ps specs t whole e ∙ ap (λ ps. taken 0 (parameters_closed h ps)) (last_is ps specs f);
+  };
 }
 reads_name h ps specs (Some id) ms rest whole is = record {
-  state = parameter_name h ps (with_name specs (Some id));
+  state = parameter_name (receiving h ps specs (Some id));
   reads = reads_one is (step_parameter_name h ps specs id is.token whole is.holds);
-  comma = step_named_comma h ps (with_name specs (Some id));
-  close = λ t e f. step_named_close h ps (with_name specs (Some id)) t e;
+  can = record { bracket = λ t e. rw e; comma = λ t e. rw e; close = λ t e f. rw e };
 }
+
+-- a length may be left out
+pub step_bracket : (d : Receiving) (t : Token) → is_fixed fixed.CloseBracket t.kind ≡ false → step (parameter_bracket d) t ≡ step (operand 2 (as_whole (as_parameter_length d))) t
+step_bracket d t f = same_false (is_fixed fixed.CloseBracket t.kind) _ _ f
+
+pub step_no_length : (d : Receiving) (t : Token) → t.kind ≡ kind.Punctuator mark.CloseBracket → step (parameter_bracket d) t ≡ taken 1 (parameter_length d None)
+step_no_length d t is = rw is
+
+pub step_length_end : (n : ℕ) (e : ExpressionTree) (d : Receiving) (t : Token) → t.kind ≡ kind.Punctuator mark.CloseBracket →
+    step (complete n e (as_whole (as_parameter_length d))) t ≡ taken 1 (parameter_length d (Some e))
+unfolding reduced
+step_length_end n e d t is = rw is
+
+pub step_columns : (d : Receiving) (l : Option ExpressionTree) (t : Token) → t.kind ≡ kind.Punctuator mark.OpenBracket →
+    step (parameter_length d l) t ≡ taken 2 (operand 2 (as_whole (as_parameter_columns d l)))
+step_columns d l t is = rw is
+
+pub step_columns_end : (n : ℕ) (c : ExpressionTree) (d : Receiving) (l : Option ExpressionTree) (t : Token) → t.kind ≡ kind.Punctuator mark.CloseBracket →
+    step (complete n c (as_whole (as_parameter_columns d l))) t ≡ close_brackets d l c
+unfolding reduced
+step_columns_end n c d l t is = rw is
+
+reads_columns : (d : Receiving) (l c : Option ExpressionTree) {ms : List Marked} {rest : List Token} → array_length c 1 ms →
+    ReadsParameter (parameter_length d l) d.head d.before (with_brackets d (Some (record { length = l; columns = c }))) ms rest
+reads_columns d l None h = record { state = parameter_length d l; reads = reads_none h; comma = λ t e. rw e; close = λ t e f. rw e }
+reads_columns d l (Some c) {rest = rest} h = record {
+  state = parameter_end d.head d.before (with_brackets d (Some (record { length = l; columns = Some c })));
+  reads = reads_last h.front h.cut h.second
+      (reads_head h.first (step_columns d l h.first.first.token h.first.first.holds)
+      ((readable c).reads 2 2 h.first.back (as_whole (as_parameter_columns d l)) h.second.token rest h.first.second.fits h.first.second.is (omega arith)
+      (ends_at_sign _ _ h.second.token sign_close_bracket h.second.holds (omega arith))))
+      (step_columns_end 2 c d l h.second.token h.second.holds);
+  comma = λ t e. rw e;
+  close = λ t e f. rw e;
+}
+
+reads_length : (q : State) (d : Receiving) → CanBracket q d → (l : Option ExpressionTree) {ms : List Marked} {rest : List Token} → open_length l 1 ms → Reads q ms (parameter_length d l) rest
+reads_length q d can None h =
+    reads_last h.front h.cut h.second (reads_join_none h.first.cut h.first.second (reads_one h.first.first (can.bracket h.first.first.token h.first.first.holds)))
+    (step_no_length d h.second.token h.second.holds)
+reads_length q d can (Some e) {rest = rest} h =
+    reads_last h.front h.cut h.second
+    (reads_head h.first (can.bracket h.first.first.token h.first.first.holds)
+    (from_operand e 2 h.first.back h.first.second.is (λ t b. step_bracket d t b.no_close_bracket)
+    ((readable e).reads 2 2 h.first.back (as_whole (as_parameter_length d)) h.second.token rest h.first.second.fits h.first.second.is (omega arith)
+    (ends_at_sign _ _ h.second.token sign_close_bracket h.second.holds (omega arith)))))
+    (step_length_end 2 e d h.second.token h.second.holds)
+
+reads_brackets : (q : State) (d : Receiving) → CanBracket q d → (b : Option BracketsTree) {ms : List Marked} {rest : List Token} → brackets b 1 ms →
+    ReadsParameter q d.head d.before (with_brackets d b) ms rest
+reads_brackets q d can None h = record { state = q; reads = reads_none h; comma = can.comma; close = can.close }
+reads_brackets q d can (Some b) {rest = rest} h =
+    let c = reads_columns d b.length b.columns {rest = rest} h.second in
+    record { state = c.state; reads = reads_both h (reads_length q d can b.length h.first) c.reads; comma = c.comma; close = c.close }
 
 reads_parameter : (q : State) (h : Head) (ps : List ParameterTree) (p : ParameterTree) (ms : List Marked) (rest : List Token) → TakesParameter q h ps → parameter p 1 ms →
     ReadsParameter q h ps p ms rest
 reads_parameter q h ps p ms rest takes is =
-    let n = reads_name h ps p.specifiers p.name is.back rest (ends_in_no_enum p.specifiers is.first.holds) is.second in
+    let g = is.second in
+    let d = receiving h ps p.specifiers p.name in
+    let n = reads_name h ps p.specifiers p.name g.front (tokens_of g.back ++ rest) (ends_in_no_enum p.specifiers is.first.holds) g.first in
+    let b = reads_brackets n.state d n.can p.brackets {rest = rest} g.second in
     record {
-      state = n.state;
-      reads = reads_both is (reads_specifiers (parameter_specifiers h ps) 1 (step_more_parameter h ps) p.specifiers q takes is.first) n.reads;
-      comma = n.comma;
-      close = n.close;
+      state = b.state;
+      reads = reads_both is (reads_specifiers (parameter_specifiers h ps) 1 (step_more_parameter h ps) p.specifiers q takes is.first) (reads_both g n.reads b.reads);
+      comma = b.comma;
+      close = b.close;
     }
 
 not_empty : {A : Type 0} (ps : List A) (p : A) → ps ++ p ∷ [] ≢ []

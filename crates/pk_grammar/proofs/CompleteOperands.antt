@@ -20,7 +20,7 @@ use Rattle.pk_grammar.specs.declared.signs.Operator.{Operator}
 use Rattle.pk_grammar.specs.Languages.{identifier_of}
 use Rattle.pk_grammar.specs.Grammar.{binary_sign, unary_sign, step_sign, assignment_sign, strength, Fits, operators_in, postfixes_in, commas_in}
 use Rattle.pk_grammar.specs.Machine.Signs.{is_fixed, operand_start, operator_of, specifier_word}
-use Rattle.pk_grammar.specs.Machine.States.{as_statement, as_label, as_test, as_last_test, as_first, as_second, as_third, as_result, as_length, as_columns, as_value, as_item, as_row_item, as_enumerator, Context, as_whole, in_parentheses, in_index, in_column, in_call, in_prefix, in_unary, in_cast, in_binary, in_choice, in_alternative, in_assignment, in_comma, operand, named, indexed, arguments, opened, cast_specifiers, complete}
+use Rattle.pk_grammar.specs.Machine.States.{as_statement, as_label, as_test, as_last_test, as_first, as_second, as_third, as_result, as_length, as_columns, as_value, as_item, as_row_item, as_enumerator, as_parameter_length, as_parameter_columns, Context, as_whole, in_parentheses, in_index, in_column, in_call, in_prefix, in_unary, in_cast, in_binary, in_choice, in_alternative, in_assignment, in_comma, operand, named, indexed, arguments, opened, cast_specifiers, complete}
 use Rattle.pk_grammar.specs.Machine.Steps.{taken, refused, Reduced, reduced, operand_level, begin_operand, go_on, join_binary, join_question, join_assignment, join_comma, is_unary, comma_after, open_cast, more_cast, specifier_at, one_more, step, next_word, end_in_enum}
 use Rattle.pk_grammar.proofs.CompleteSigns.{takes, strength_least, strength_most, Sign, sign_binary, sign_step, sign_assignment, unary_start, step_start, Begins}
 use Rattle.pk_grammar.proofs.CompleteReduced.{kept}
@@ -184,6 +184,8 @@ comma_joins n e (as_whole (as_value d)) t h = absurd (omega arith)
 comma_joins n e (as_whole (as_item d)) t h = absurd (omega arith)
 comma_joins n e (as_whole (as_row_item d at es)) t h = absurd (omega arith)
 comma_joins n e (as_whole (as_enumerator d id)) t h = absurd (omega arith)
+comma_joins n e (as_whole (as_parameter_length d)) t h = absurd (omega arith)
+comma_joins n e (as_whole (as_parameter_columns d l)) t h = absurd (omega arith)
 comma_joins n e (in_parentheses m at c) t h = refl
 comma_joins n e (in_index m id at c) t h = refl
 comma_joins n e (in_column m id at d column_at c) t h = refl

@@ -142,25 +142,26 @@ pub record Begins (k : Kind) : Type 0 where
   pub no_semicolon : is_fixed fixed.Semicolon k ≡ false
   pub no_open_brace : is_fixed fixed.OpenBrace k ≡ false
   pub no_close_brace : is_fixed fixed.CloseBrace k ≡ false
+  pub no_close_bracket : is_fixed fixed.CloseBracket k ≡ false
   pub no_else : is_fixed fixed.Else k ≡ false
   pub no_static : is_fixed fixed.Static k ≡ false
   pub no_specifier : (from to : ℕ) → specifier_in k from to ≡ None
   pub no_statement : statement_start k ≡ first.Other
 
 begins_punctuator : (p : Punctuator) → operand_start (kind.Punctuator p) ≢ start.Other → Begins (kind.Punctuator p)
-begins_punctuator mark.OpenParenthesis h = record { no_close = refl; no_semicolon = refl; no_open_brace = refl; no_close_brace = refl; no_else = refl; no_static = refl; no_specifier = λ from to. refl; no_statement = refl }
-begins_punctuator mark.Increment h = record { no_close = refl; no_semicolon = refl; no_open_brace = refl; no_close_brace = refl; no_else = refl; no_static = refl; no_specifier = λ from to. refl; no_statement = refl }
-begins_punctuator mark.Decrement h = record { no_close = refl; no_semicolon = refl; no_open_brace = refl; no_close_brace = refl; no_else = refl; no_static = refl; no_specifier = λ from to. refl; no_statement = refl }
-begins_punctuator mark.Plus h = record { no_close = refl; no_semicolon = refl; no_open_brace = refl; no_close_brace = refl; no_else = refl; no_static = refl; no_specifier = λ from to. refl; no_statement = refl }
-begins_punctuator mark.Minus h = record { no_close = refl; no_semicolon = refl; no_open_brace = refl; no_close_brace = refl; no_else = refl; no_static = refl; no_specifier = λ from to. refl; no_statement = refl }
-begins_punctuator mark.Tilde h = record { no_close = refl; no_semicolon = refl; no_open_brace = refl; no_close_brace = refl; no_else = refl; no_static = refl; no_specifier = λ from to. refl; no_statement = refl }
-begins_punctuator mark.Exclamation h = record { no_close = refl; no_semicolon = refl; no_open_brace = refl; no_close_brace = refl; no_else = refl; no_static = refl; no_specifier = λ from to. refl; no_statement = refl }
+begins_punctuator mark.OpenParenthesis h = record { no_close = refl; no_semicolon = refl; no_open_brace = refl; no_close_brace = refl; no_close_bracket = refl; no_else = refl; no_static = refl; no_specifier = λ from to. refl; no_statement = refl }
+begins_punctuator mark.Increment h = record { no_close = refl; no_semicolon = refl; no_open_brace = refl; no_close_brace = refl; no_close_bracket = refl; no_else = refl; no_static = refl; no_specifier = λ from to. refl; no_statement = refl }
+begins_punctuator mark.Decrement h = record { no_close = refl; no_semicolon = refl; no_open_brace = refl; no_close_brace = refl; no_close_bracket = refl; no_else = refl; no_static = refl; no_specifier = λ from to. refl; no_statement = refl }
+begins_punctuator mark.Plus h = record { no_close = refl; no_semicolon = refl; no_open_brace = refl; no_close_brace = refl; no_close_bracket = refl; no_else = refl; no_static = refl; no_specifier = λ from to. refl; no_statement = refl }
+begins_punctuator mark.Minus h = record { no_close = refl; no_semicolon = refl; no_open_brace = refl; no_close_brace = refl; no_close_bracket = refl; no_else = refl; no_static = refl; no_specifier = λ from to. refl; no_statement = refl }
+begins_punctuator mark.Tilde h = record { no_close = refl; no_semicolon = refl; no_open_brace = refl; no_close_brace = refl; no_close_bracket = refl; no_else = refl; no_static = refl; no_specifier = λ from to. refl; no_statement = refl }
+begins_punctuator mark.Exclamation h = record { no_close = refl; no_semicolon = refl; no_open_brace = refl; no_close_brace = refl; no_close_bracket = refl; no_else = refl; no_static = refl; no_specifier = λ from to. refl; no_statement = refl }
 begins_punctuator _ h = absurd (h refl)
 
 pub begins : (k : Kind) → operand_start k ≢ start.Other → Begins k
-begins kind.Name h = record { no_close = refl; no_semicolon = refl; no_open_brace = refl; no_close_brace = refl; no_else = refl; no_static = refl; no_specifier = λ from to. refl; no_statement = refl }
-begins (kind.Constant ty v) h = record { no_close = refl; no_semicolon = refl; no_open_brace = refl; no_close_brace = refl; no_else = refl; no_static = refl; no_specifier = λ from to. refl; no_statement = refl }
-begins (kind.Character v) h = record { no_close = refl; no_semicolon = refl; no_open_brace = refl; no_close_brace = refl; no_else = refl; no_static = refl; no_specifier = λ from to. refl; no_statement = refl }
+begins kind.Name h = record { no_close = refl; no_semicolon = refl; no_open_brace = refl; no_close_brace = refl; no_close_bracket = refl; no_else = refl; no_static = refl; no_specifier = λ from to. refl; no_statement = refl }
+begins (kind.Constant ty v) h = record { no_close = refl; no_semicolon = refl; no_open_brace = refl; no_close_brace = refl; no_close_bracket = refl; no_else = refl; no_static = refl; no_specifier = λ from to. refl; no_statement = refl }
+begins (kind.Character v) h = record { no_close = refl; no_semicolon = refl; no_open_brace = refl; no_close_brace = refl; no_close_bracket = refl; no_else = refl; no_static = refl; no_specifier = λ from to. refl; no_statement = refl }
 begins (kind.Punctuator p) h = begins_punctuator p h
 begins _ h = absurd (h refl)
 

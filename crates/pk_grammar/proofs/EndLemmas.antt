@@ -3,7 +3,7 @@ use Rattle.std.proofs.Common.{◌≡◌, ℕ, List, [], ◌∷◌, None, Bool, t
 use Rattle.pk_lex.specs.declared.token.Token.{Token}
 use Rattle.pk_ast.specs.declared.declarations.Specifier.{Specifier}
 use Rattle.pk_ast.specs.Trees.{OneOrMore, EnumeratorTree, EnumerationTree, ExpressionTree, name, index, StatementTree, label, case, default, if_then, if_else, switch, while, for_loop}
-use Rattle.pk_grammar.specs.Machine.States.{EnumerationSite, in_declaration, in_typedef, Outer, in_block, in_label, in_case, in_default, in_if, in_else, in_switch, in_while, in_do, in_for, Purpose, as_statement, as_label, as_test, as_last_test, as_first, as_second, as_third, as_result, as_length, as_columns, as_value, as_item, as_row_item, as_enumerator, Context, as_whole, in_parentheses, in_index, in_column, in_call, in_prefix, in_unary, in_cast, in_binary, in_choice, in_alternative, in_assignment, in_comma, State, top, after_storage, after_typedef, type_specifiers, after_type_name, type_name_comma, at_enumerator, after_enumerator_name, after_braces, after_specifiers, after_name, after_length, after_columns, after_assign, at_initializer_item, at_row_item, after_item, after_initializer, after_comma, parameters_open, parameter_specifiers, parameter_name, parameter_comma, parameters_closed, block_item, after_static, at_statement, after_statement, test_open, do_open, for_open, for_first, for_second, for_third, default_colon, goto_name, returning, statement_end, operand, named, indexed, arguments, opened, cast_specifiers, complete}
+use Rattle.pk_grammar.specs.Machine.States.{EnumerationSite, in_declaration, in_typedef, Outer, in_block, in_label, in_case, in_default, in_if, in_else, in_switch, in_while, in_do, in_for, Purpose, as_statement, as_label, as_test, as_last_test, as_first, as_second, as_third, as_result, as_length, as_columns, as_value, as_item, as_row_item, as_enumerator, as_parameter_length, as_parameter_columns, Context, as_whole, in_parentheses, in_index, in_column, in_call, in_prefix, in_unary, in_cast, in_binary, in_choice, in_alternative, in_assignment, in_comma, State, top, after_storage, after_typedef, type_specifiers, after_type_name, type_name_comma, at_enumerator, after_enumerator_name, after_braces, after_specifiers, after_name, after_length, after_columns, after_assign, at_initializer_item, at_row_item, after_item, after_initializer, after_comma, parameters_open, parameter_specifiers, parameter_name, parameter_bracket, parameter_length, parameter_end, parameter_comma, parameters_closed, block_item, after_static, at_statement, after_statement, test_open, do_open, for_open, for_first, for_second, for_third, default_colon, goto_name, returning, statement_end, operand, named, indexed, arguments, opened, cast_specifiers, complete}
 use Rattle.pk_grammar.specs.Machine.Steps.{Verdict, taken, refused, finished, Reduced, reduced, labelled, end_purpose, end_expression, resume, step, more_cast, end_braces, behind_braces, more_typedef, more_specifiers, more_parameter, next_word, end_in_enum}
 use Rattle.pk_grammar.specs.Machine.Running.{end_of}
 use Rattle.pk_grammar.proofs.WordLemmas.{no_next}
@@ -37,6 +37,8 @@ module _ (t : Token) where
   purpose_end (as_item d) e = tt
   purpose_end (as_row_item d at es) e = tt
   purpose_end (as_enumerator d id) e = tt
+  purpose_end (as_parameter_length d) e = tt
+  purpose_end (as_parameter_columns d l) e = tt
 
   expression_end : (e : ExpressionTree) (c : Context) → IsNotTaken (end_expression e c (end_of t))
   expression_end e (as_whole p) = purpose_end p e
@@ -99,7 +101,10 @@ module _ (t : Token) where
   not_taken (after_comma d) = tt
   not_taken (parameters_open h) = tt
   not_taken (parameter_specifiers h ps specs) = subst (λ w. IsNotTaken (more_parameter h ps specs (end_of t) w)) (sym (no_word specs)) (either_refused (end_in_enum specs))
-  not_taken (parameter_name h ps p) = tt
+  not_taken (parameter_name d) = tt
+  not_taken (parameter_bracket d) = tt
+  not_taken (parameter_length d l) = tt
+  not_taken (parameter_end h ps p) = tt
   not_taken (parameter_comma h ps) = tt
   not_taken (parameters_closed h ps) = tt
   not_taken (block_item b) = tt

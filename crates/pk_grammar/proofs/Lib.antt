@@ -7,6 +7,7 @@ pub mod SpellsLists
 pub mod SpellsGood
 pub mod SpellsEnumerations
 pub mod SpellsDeclarations
+pub mod SpellsParameters
 pub mod SpellsPurposes
 pub mod SpellsOperands
 pub mod SpellsStatements

@@ -13,8 +13,8 @@ use Rattle.pk_ast.specs.declared.declarations.SpecifierWord.{SpecifierWord}
 use Rattle.pk_ast.specs.declared.declarations.SpecifierWord.TheVariants as words
 use Rattle.pk_ast.specs.declared.expressions.Identifier.{Identifier}
 use Rattle.pk_ast.specs.declared.units.Storage.{Storage}
-use Rattle.pk_ast.specs.Names.{word_name, word_names, specifier_names, expression_names, list_names, optional_names, initializer_item_names, all_initializer_item_names, initializer_names, dimensions_names, declarator_names, all_declarator_names, enumerator_names, all_enumerator_names, enumeration_names, declaration_names, for_start_names, statement_names, item_names, body_names, optional_name, parameter_names, external_names, names_of}
-use Rattle.pk_ast.specs.Trees.{OneOrMore, ExpressionTree, name, call, index, element, constant, character, parenthesized, postfix, prefix, unary, cast, binary, conditional, assignment, comma, ExpressionTrees, no_expressions, expression_then, InitializerItemTree, item_value, item_row, InitializerTree, single, braced, DimensionsTree, DeclaratorTree, EnumeratorTree, EnumerationTree, DeclarationTree, ForStartTree, declaration, expression, StatementTree, block, empty, expression_statement, label, case, default, if_then, if_else, switch, while, do_while, for_loop, goto, continue, break, return, ItemTrees, no_items, declaration_then, statement_then, BlockTree, ParameterTree, ExternalTree, function, objects, type_names}
+use Rattle.pk_ast.specs.Names.{word_name, word_names, specifier_names, expression_names, list_names, optional_names, initializer_item_names, all_initializer_item_names, initializer_names, dimensions_names, declarator_names, all_declarator_names, enumerator_names, all_enumerator_names, enumeration_names, declaration_names, for_start_names, statement_names, item_names, body_names, optional_name, brackets_names, parameter_names, external_names, names_of}
+use Rattle.pk_ast.specs.Trees.{OneOrMore, ExpressionTree, name, call, index, element, constant, character, parenthesized, postfix, prefix, unary, cast, binary, conditional, assignment, comma, ExpressionTrees, no_expressions, expression_then, InitializerItemTree, item_value, item_row, InitializerTree, single, braced, DimensionsTree, DeclaratorTree, EnumeratorTree, EnumerationTree, DeclarationTree, ForStartTree, declaration, expression, StatementTree, block, empty, expression_statement, label, case, default, if_then, if_else, switch, while, do_while, for_loop, goto, continue, break, return, ItemTrees, no_items, declaration_then, statement_then, BlockTree, BracketsTree, ParameterTree, ExternalTree, function, objects, type_names}
 use Rattle.pk_grammar.specs.Languages.{Marked, Language, Nothing, At, Any, Identified, ◌⊙◌, Inside, Past, Optional, Where, identifier_of}
 use Rattle.pk_grammar.specs.Grammar as grammar
 use Rattle.pk_grammar.specs.Grammar.{punctuator, punctuator_at, keyword, keyword_at, specifier, specifier_list, specifiers, spelled, spelled_list, spelled_more, Expression, Items, statement, block_items, IsWord}
@@ -353,10 +353,21 @@ stored-names None = nothing
 stored-names (Some s) = word_at _ s.at
 
 abbrev own_names : ParameterTree → List Identifier
-own_names p = specifier_names p.specifiers ++ optional_name p.name
+own_names p = specifier_names p.specifiers ++ (optional_name p.name ++ brackets_names p.brackets)
+
+open_length-names : (l : Option ExpressionTree) → Has (grammar.open_length l) (optional_names l)
+open_length-names l =
+    let xs : List Identifier = optional_names l in
+    then_none xs (inside xs (none_then xs (sign mark.OpenBracket) (optional-names _ l))) (sign mark.CloseBracket)
+
+brackets-names : (b : Option BracketsTree) → Has (grammar.brackets b) (brackets_names b)
+brackets-names None = nothing
+brackets-names (Some b) = both (optional_names b.length) (optional_names b.columns) (open_length-names b.length) (length-names b.columns)
 
 parameter-names : (p : ParameterTree) → Has (grammar.parameter p) (own_names p)
-parameter-names p = both (specifier_names p.specifiers) (optional_name p.name) (specifiers-names p.specifiers) (named p.name)
+parameter-names p =
+    both (specifier_names p.specifiers) (optional_name p.name ++ brackets_names p.brackets) (specifiers-names p.specifiers)
+    (both (optional_name p.name) (brackets_names p.brackets) (named p.name) (brackets-names p.brackets))
   where
     named : (x : Option Identifier) → Has (grammar.optional_name x) (optional_name x)
     named None = nothing

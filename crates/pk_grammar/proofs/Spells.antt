@@ -8,7 +8,7 @@ use Rattle.pk_grammar.specs.declared.signs.Fixed.TheVariants as fixed
 use Rattle.pk_grammar.specs.Languages.{Marked}
 use Rattle.pk_grammar.specs.Grammar.{statement, externals, text}
 use Rattle.pk_grammar.specs.Machine.Signs.{specifier_word}
-use Rattle.pk_grammar.specs.Machine.States.{as_first, as_second, as_third, as_result, as_value, as_item, as_row_item, as_whole, State, top, after_storage, after_typedef, type_specifiers, after_type_name, type_name_comma, at_enumerator, after_enumerator_name, after_braces, after_specifiers, after_name, after_length, after_columns, after_assign, at_initializer_item, at_row_item, after_item, after_initializer, after_comma, parameters_open, parameter_specifiers, parameter_name, parameter_comma, parameters_closed, block_item, after_static, at_statement, after_statement, test_open, do_open, for_open, for_first, for_second, for_third, default_colon, goto_name, returning, statement_end, operand, named, indexed, arguments, opened, cast_specifiers, complete}
+use Rattle.pk_grammar.specs.Machine.States.{as_first, as_second, as_third, as_result, as_value, as_item, as_row_item, as_parameter_length, as_whole, State, top, after_storage, after_typedef, type_specifiers, after_type_name, type_name_comma, at_enumerator, after_enumerator_name, after_braces, after_specifiers, after_name, after_length, after_columns, after_assign, at_initializer_item, at_row_item, after_item, after_initializer, after_comma, parameters_open, parameter_specifiers, parameter_name, parameter_bracket, parameter_length, parameter_end, parameter_comma, parameters_closed, block_item, after_static, at_statement, after_statement, test_open, do_open, for_open, for_first, for_second, for_third, default_colon, goto_name, returning, statement_end, operand, named, indexed, arguments, opened, cast_specifiers, complete}
 use Rattle.pk_grammar.specs.Machine.Steps.{Verdict, taken, refused, finished, naming_nesting, initializing_nesting, begin_for, step}
 use Rattle.pk_grammar.proofs.SpellsSigns.{IsSpecifier, is_specifier}
 use Rattle.pk_grammar.proofs.SpellsWords.{push, push_at, push_last, none_more, gather, last_as, moved}
@@ -20,7 +20,8 @@ use Rattle.pk_grammar.proofs.SpellsDeclarations.{at_after_braces_good, after_dec
 use Rattle.pk_grammar.proofs.SpellsPurposes.{for_ends}
 use Rattle.pk_grammar.proofs.SpellsOperands.{at_operand_good, at_complete_good, at_named_good, at_indexed_good, at_arguments_good, at_opened_good, more_cast_good}
 use Rattle.pk_grammar.proofs.SpellsStatements.{begins_statement_good, at_items_good, begin_static_good, resume_good}
-use Rattle.pk_grammar.proofs.SpellsExternals.{begin_external_good, at_top_good, begin_typedef_good, more_typedef_good, at_after_type_name_good, next_type_name_good, begin_parameter_good, more_parameter_good, at_parameter_name_good, parameters_open_good, at_parameters_closed_good}
+use Rattle.pk_grammar.proofs.SpellsExternals.{begin_external_good, at_top_good, begin_typedef_good, more_typedef_good, at_after_type_name_good, next_type_name_good, at_parameters_closed_good}
+use Rattle.pk_grammar.proofs.SpellsParameters.{begin_parameter_good, more_parameter_good, at_parameter_end_good, at_parameter_name_good, at_parameter_bracket_good, at_parameter_length_good, parameters_open_good}
 use Rattle.pk_grammar.proofs.SpellsEnds.{Ends, at_end, goes, state_ends}
 
 step_good : (s : State) (t : Token) (ms : List Marked) → Spells s ms → Good (step s t) t ms
@@ -48,7 +49,10 @@ step_good (after_comma d) t ms h = wanted_good fixed.Name _ t ms (λ k. push ms 
 step_good (parameters_open g) t ms h =
     fixed_good fixed.CloseParenthesis _ _ t ms (λ k. parameters_open_good g t ms k h) (begin_parameter_good g [] t ms (none_more 1 h))
 step_good (parameter_specifiers g ps ss) t ms h = more_parameter_good g ps ss t ms h
-step_good (parameter_name g ps p) t ms h = at_parameter_name_good g ps p t ms h.0 h.1
+step_good (parameter_name d) t ms h = at_parameter_name_good d t ms h.0 h.1
+step_good (parameter_bracket d) t ms h = at_parameter_bracket_good d t ms h (at_operand_good 2 (as_whole (as_parameter_length d)) t ms refl h)
+step_good (parameter_length d l) t ms h = at_parameter_length_good d l t ms h
+step_good (parameter_end g ps p) t ms h = at_parameter_end_good g ps p t ms h.0 h.1
 step_good (parameter_comma g ps) t ms h = begin_parameter_good g ps t ms h
 step_good (parameters_closed g ps) t ms h = at_parameters_closed_good g ps t ms h
 step_good (block_item b) t ms h = at_items_good b t ms h

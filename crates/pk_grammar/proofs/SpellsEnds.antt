@@ -1,5 +1,5 @@
 -- From each state some tokens lead to the end of a text.
-use Rattle.std.proofs.Common.{◌≡◌, ℕ, ◌+◌, List, Some, Bool, true, false, refl, sym, subst, rules}
+use Rattle.std.proofs.Common.{◌≡◌, ℕ, ◌+◌, List, Option, Some, Bool, true, false, refl, sym, subst, rules}
 use Rattle.std.specs.Prelude.{nat_le, pos}
 use Rattle.pk_ctypes.specs.declared.places.Pos.{Pos}
 use Rattle.pk_lex.specs.declared.token.Token.{Token}
@@ -17,7 +17,7 @@ use Rattle.pk_grammar.specs.declared.signs.Operator.TheVariants as operator
 use Rattle.pk_grammar.specs.Languages.{identifier_of}
 use Rattle.pk_grammar.specs.Grammar.{any_expression, strength}
 use Rattle.pk_grammar.specs.Machine.Signs.{is_fixed, operator_of}
-use Rattle.pk_grammar.specs.Machine.States.{Head, OpenBlock, function_block, inner_block, Outer, in_block, in_label, in_case, in_default, in_if, in_else, in_switch, in_while, in_do, in_for, Site, in_a_block, in_a_for, outside, EnumerationSite, in_declaration, in_typedef, Declared, Initialized, Purpose, as_statement, as_label, as_test, as_last_test, as_first, as_second, as_third, as_result, as_length, as_columns, as_value, as_item, as_row_item, as_enumerator, Context, as_whole, in_parentheses, in_index, in_column, in_call, in_prefix, in_unary, in_cast, in_binary, in_choice, in_alternative, in_assignment, in_comma, State, top, after_storage, after_typedef, type_specifiers, after_type_name, type_name_comma, at_enumerator, after_enumerator_name, after_braces, after_specifiers, after_name, after_length, after_columns, after_assign, at_initializer_item, at_row_item, after_item, after_initializer, after_comma, parameters_open, parameter_specifiers, parameter_name, parameter_comma, parameters_closed, block_item, after_static, at_statement, after_statement, test_open, do_open, for_open, for_first, for_second, for_third, default_colon, goto_name, returning, statement_end, operand, named, indexed, arguments, opened, cast_specifiers, complete}
+use Rattle.pk_grammar.specs.Machine.States.{Head, OpenBlock, function_block, inner_block, Outer, in_block, in_label, in_case, in_default, in_if, in_else, in_switch, in_while, in_do, in_for, Site, in_a_block, in_a_for, outside, EnumerationSite, in_declaration, in_typedef, Declared, Initialized, Receiving, Purpose, as_statement, as_label, as_test, as_last_test, as_first, as_second, as_third, as_result, as_length, as_columns, as_value, as_item, as_row_item, as_enumerator, as_parameter_length, as_parameter_columns, Context, as_whole, in_parentheses, in_index, in_column, in_call, in_prefix, in_unary, in_cast, in_binary, in_choice, in_alternative, in_assignment, in_comma, State, top, after_storage, after_typedef, type_specifiers, after_type_name, type_name_comma, at_enumerator, after_enumerator_name, after_braces, after_specifiers, after_name, after_length, after_columns, after_assign, at_initializer_item, at_row_item, after_item, after_initializer, after_comma, parameters_open, parameter_specifiers, parameter_name, parameter_bracket, parameter_length, parameter_end, parameter_comma, parameters_closed, block_item, after_static, at_statement, after_statement, test_open, do_open, for_open, for_first, for_second, for_third, default_colon, goto_name, returning, statement_end, operand, named, indexed, arguments, opened, cast_specifiers, complete}
 use Rattle.pk_grammar.specs.Machine.Steps.{Verdict, taken, finished, Reduced, reduced, end_expression, end_purpose, go_on, resume, step, end_declaration, site_nesting, specifier_at, next_word, end_in_enum}
 use Rattle.pk_grammar.proofs.WordLemmas.{next_tag, tag_is_last, no_name}
 use Rattle.pk_grammar.proofs.CompleteOperands.{step_more_cast, step_cast_end}
@@ -106,6 +106,14 @@ ends_braces : (n : ℕ) (s : EnumerationSite) (specs : OneOrMore Specifier) (e :
 ends_braces n (in_declaration s) specs e = goes a_name (goes semicolon (ends_declaration _))
 ends_braces n (in_typedef before) specs e = goes a_name (goes semicolon (the_end _))
 
+-- Parameters
+
+ends_length : (n : ℕ) (d : Receiving) (l : Option ExpressionTree) → Ends (taken n (parameter_length d l))
+ends_length n d l = goes (sign mark.CloseParenthesis) (goes semicolon (the_end _))
+
+ends_parameter : (n : ℕ) (h : Head) (ps : List ParameterTree) (p : ParameterTree) → Ends (taken n (parameter_end h ps p))
+ends_parameter n h ps p = goes (sign mark.CloseParenthesis) (goes semicolon (the_end _))
+
 -- Expressions
 
 -- a token that is no operator, and ends what is open
@@ -129,6 +137,8 @@ ends_purpose (as_value d) e = record { token = semicolon; no_operator = refl; en
 ends_purpose (as_enumerator d id) e = record { token = sign mark.CloseBrace; no_operator = refl; ends = ends_braces _ d.site _ _ }
 ends_purpose (as_item d) e = record { token = sign mark.CloseBrace; no_operator = refl; ends = ends_initializer _ _ }
 ends_purpose (as_row_item d at es) e = record { token = sign mark.CloseBrace; no_operator = refl; ends = ends_items _ _ }
+ends_purpose (as_parameter_length d) e = record { token = sign mark.CloseBracket; no_operator = refl; ends = ends_length _ _ _ }
+ends_purpose (as_parameter_columns d l) e = record { token = sign mark.CloseBracket; no_operator = refl; ends = ends_parameter _ _ _ _ }
 
 zero_le : (n : ℕ) → nat_le 0 n ≡ true
 zero_le n = search rules
@@ -211,7 +221,10 @@ state_ends n (after_initializer d) = ends_initializer n d
 state_ends n (after_comma d) = goes a_name (goes semicolon (ends_declaration _))
 state_ends n (parameters_open h) = goes (sign mark.CloseParenthesis) (goes semicolon (the_end _))
 state_ends n (parameter_specifiers h ps specs) = ends_words (parameter_specifiers h ps) 1 (step_more_parameter h ps) (whole_parameter h ps) n specs
-state_ends n (parameter_name h ps p) = goes (sign mark.CloseParenthesis) (goes semicolon (the_end _))
+state_ends n (parameter_name d) = goes (sign mark.CloseParenthesis) (goes semicolon (the_end _))
+state_ends n (parameter_bracket d) = goes (sign mark.CloseBracket) (ends_length _ _ _)
+state_ends n (parameter_length d l) = ends_length n d l
+state_ends n (parameter_end h ps p) = ends_parameter n h ps p
 state_ends n (parameter_comma h ps) = goes (a_token (kind.Keyword key.Int)) (goes (sign mark.CloseParenthesis) (goes semicolon (the_end _)))
 state_ends n (parameters_closed h ps) = goes semicolon (the_end _)
 state_ends n (block_item b) = ends_item n b

@@ -20,7 +20,7 @@ use Rattle.pk_grammar.specs.declared.signs.Operator.TheVariants as operator
 use Rattle.pk_grammar.specs.Languages.{Marked, Identified, ◌⊙◌, Inside}
 use Rattle.pk_grammar.specs.Grammar.{any_expression, assignment_expression, conditional_expression, strength, weakest_operator, cast_expression, unary_expression, postfix_expression, Fits, spelled, punctuator, punctuator_at}
 use Rattle.pk_grammar.specs.Machine.Signs.{operand_start, operator_of, specifier_word}
-use Rattle.pk_grammar.specs.Machine.States.{Purpose, as_statement, as_label, as_test, as_last_test, as_first, as_second, as_third, as_result, as_length, as_columns, as_value, as_item, as_row_item, as_enumerator, Context, as_whole, in_parentheses, in_index, in_column, in_call, in_prefix, in_unary, in_cast, in_binary, in_choice, in_alternative, in_assignment, in_comma}
+use Rattle.pk_grammar.specs.Machine.States.{Purpose, as_statement, as_label, as_test, as_last_test, as_first, as_second, as_third, as_result, as_length, as_columns, as_value, as_item, as_row_item, as_enumerator, as_parameter_length, as_parameter_columns, Context, as_whole, in_parentheses, in_index, in_column, in_call, in_prefix, in_unary, in_cast, in_binary, in_choice, in_alternative, in_assignment, in_comma}
 use Rattle.pk_grammar.specs.Machine.Steps.{refused, Reduced, reduced, purpose_level, operand_level, begin_operand, at_operand, end_expression, comma_after, join_comma, join_binary, join_question, is_unary, join_assignment, go_on, at_complete, at_named, at_indexed, at_arguments, open_cast, at_opened, more_cast, next_word, end_in_enum}
 use Rattle.pk_grammar.proofs.SpellsSigns.{IsOperand, is_operand, IsOperator, is_operator, IsSpecifier, is_specifier, IsNext, is_next}
 use Rattle.pk_grammar.proofs.SpellsWords.{◌▹◌, push, none_more, gather, last_as, moved, assoc, then_as}
@@ -86,6 +86,8 @@ purpose_most (as_value d) = omega arith
 purpose_most (as_item d) = omega arith
 purpose_most (as_row_item d at es) = omega arith
 purpose_most (as_enumerator d id) = omega arith
+purpose_most (as_parameter_length d) = omega arith
+purpose_most (as_parameter_columns d l) = omega arith
 
 operand_most : (c : Context) → operand_level c ≤ 14
 operand_most (as_whole p) = let h = purpose_most p in omega arith

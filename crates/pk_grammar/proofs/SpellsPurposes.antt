@@ -10,7 +10,7 @@ use Rattle.pk_grammar.specs.declared.states.Testing.TheVariants as testing
 use Rattle.pk_grammar.specs.declared.signs.Fixed.TheVariants as fixed
 use Rattle.pk_grammar.specs.Languages.{Marked, Identified}
 use Rattle.pk_grammar.specs.Grammar.{any_expression, assignment_expression, conditional_expression, Fits, spelled, Expression, statement, keyword_at, punctuator, optional}
-use Rattle.pk_grammar.specs.Machine.States.{Outer, in_for, Purpose, as_statement, as_label, as_test, as_last_test, as_first, as_second, as_third, as_result, as_length, as_columns, as_value, as_item, as_row_item, as_enumerator, as_whole, at_statement}
+use Rattle.pk_grammar.specs.Machine.States.{Outer, in_for, Purpose, as_statement, as_label, as_test, as_last_test, as_first, as_second, as_third, as_result, as_length, as_columns, as_value, as_item, as_row_item, as_enumerator, as_parameter_length, as_parameter_columns, as_whole, at_statement}
 use Rattle.pk_grammar.specs.Machine.Steps.{taken, labelled, end_purpose, comma_purpose, join_comma, tested, purpose_level, first_item, more_items}
 use Rattle.pk_grammar.proofs.SpellsSigns.{testing_keyword}
 use Rattle.pk_grammar.proofs.SpellsWords.{Words, ◌▹◌, push, push_at, gather, last_as, moved}
@@ -18,6 +18,7 @@ use Rattle.pk_grammar.proofs.SpellsLists.{some_items_end, all_fit, expressions_e
 use Rattle.pk_grammar.proofs.SpellsStates.{bare, bare_two, bare_four, to_third, outer_nesting, to_statement, to_expression, expression_nesting}
 use Rattle.pk_grammar.proofs.SpellsGood.{Good, fixed_good, wanted_good, two}
 use Rattle.pk_grammar.proofs.SpellsEnumerations.{valued, close_braces_good, next_enumerator_good}
+use Rattle.pk_grammar.proofs.SpellsParameters.{close_brackets_good}
 use Rattle.pk_grammar.proofs.SpellsDeclarations.{initialized, one_item, close_initializer_good, next_item_good, close_row_good, end_declaration_good, next_declarator_good}
 
 -- an expression of this level
@@ -75,6 +76,9 @@ end_purpose_good (as_item d) m e t ms en f l h = wanted_good fixed.CloseBrace _ 
     close_initializer_good _ t ms k (one_item d (item_value e) ms (leveled assignment_expression l (moved (spelled e) en h))))
 end_purpose_good (as_row_item d at es) m e t ms en f l h = wanted_good fixed.CloseBrace _ t ms (λ k.
     close_row_good d at (first_item es e) (more_items es e) t ms k (last_as (λ ts g. some_items_end es e _ ts h.first.0 l g) (gather (bare (moved (spelled e) en h)))))
+end_purpose_good (as_parameter_length d) m e t ms en f l h = wanted_good fixed.CloseBracket _ t ms (λ k. gather (push ms t (gather (leveled _ l (moved (spelled e) en h))) k))
+end_purpose_good (as_parameter_columns d c) m e t ms en f l h = wanted_good fixed.CloseBracket _ t ms (λ k.
+    close_brackets_good d c e t ms k (gather (leveled _ l (moved (spelled e) en h))))
 
 join_comma_good : (p : Purpose) (n : ℕ) (e : ExpressionTree) (t : Token) (ms : List Marked) → t.kind ≡ kind.Punctuator mark.Comma → n ≡ expression_nesting p →
     purpose_level p ≤ any_expression → Fits any_expression e → (to_expression p ▹ spelled e n) ms → Good (join_comma n e (as_whole p) t) t ms
@@ -92,6 +96,8 @@ comma_purpose_good (as_third m at g second o) n e t ms k en f l h = join_comma_g
 comma_purpose_good (as_result m at o) n e t ms k en f l h = join_comma_good (as_result m at o) n e t ms k en (omega arith) f h
 comma_purpose_good (as_length d id) n e t ms k en f l h = tt
 comma_purpose_good (as_columns d id c) n e t ms k en f l h = tt
+comma_purpose_good (as_parameter_length d) n e t ms k en f l h = tt
+comma_purpose_good (as_parameter_columns d c) n e t ms k en f l h = tt
 comma_purpose_good (as_value d) n e t ms k en f l h = next_declarator_good _ t ms k (initialized d (Some (single e)) ms (gather (leveled assignment_expression l (moved (spelled e) en h))))
 comma_purpose_good (as_enumerator d id) n e t ms k en f l h = next_enumerator_good _ t ms k (valued d id (Some e) ms (gather (leveled conditional_expression l (moved (spelled e) en h))))
 comma_purpose_good (as_item d) n e t ms k en f l h = next_item_good _ t ms k (one_item d (item_value e) ms (leveled assignment_expression l (moved (spelled e) en h)))

@@ -1,5 +1,5 @@
 -- The tokens that a state stands for.
-use Rattle.std.proofs.Common.{◌≡◌, ℕ, ◌+◌, ◌≤◌, List, [], ◌∷◌, ◌++◌, Option, Some}
+use Rattle.std.proofs.Common.{◌≡◌, ℕ, ◌+◌, ◌≤◌, List, [], ◌∷◌, ◌++◌, Option, Some, None}
 use Rattle.pk_ctypes.specs.declared.places.Pos.{Pos}
 use Rattle.pk_lex.specs.declared.token.Keyword.{Keyword}
 use Rattle.pk_lex.specs.declared.token.Keyword.TheVariants as key
@@ -8,9 +8,9 @@ use Rattle.pk_ast.specs.declared.declarations.Specifier.{Specifier}
 use Rattle.pk_ast.specs.declared.expressions.Identifier.{Identifier}
 use Rattle.pk_ast.specs.Trees.{OneOrMore, ExpressionTree, ExpressionTrees, no_expressions, expression_then, InitializerItemTree, index, DeclaratorTree, EnumeratorTree, EnumerationTree, StatementTree, ForStartTree, ParameterTree, ExternalTree}
 use Rattle.pk_grammar.specs.Languages.{Marked, Language, Nothing, Identified, ◌⊙◌, Where}
-use Rattle.pk_grammar.specs.Grammar.{binary_sign, unary_sign, step_sign, assignment_sign, punctuator_at, punctuator, keyword_at, keyword, any_expression, assignment_expression, conditional_expression, strength, weakest_operator, cast_expression, unary_expression, postfix_expression, Fits, AllFit, operators_in, commas_in, AreBeforeBraces, all_of, words, specifiers, spelled, optional, enumerator, enumerators, type_words, array_length, dimensions, initializer_item, initializer_items, declarator, declarators, OpenEnd, test, optional_static, for_start, statement, block_items, stored, parameter, IsVoidAlone, parameters, names, externals}
-use Rattle.pk_grammar.specs.Machine.States.{Head, OpenBlock, function_block, inner_block, Outer, in_block, in_label, in_case, in_default, in_if, in_else, in_switch, in_while, in_do, in_for, Site, in_a_block, in_a_for, outside, Declaring, Declared, EnumerationSite, in_declaration, in_typedef, Enumerating, Enumerated, Naming, Initializing, Initialized, Purpose, as_statement, as_label, as_test, as_last_test, as_first, as_second, as_third, as_result, as_length, as_columns, as_value, as_item, as_row_item, as_enumerator, Context, as_whole, in_parentheses, in_index, in_column, in_call, in_prefix, in_unary, in_cast, in_binary, in_choice, in_alternative, in_assignment, in_comma, State, top, after_storage, after_typedef, type_specifiers, after_type_name, type_name_comma, at_enumerator, after_enumerator_name, after_braces, after_specifiers, after_name, after_length, after_columns, after_assign, at_initializer_item, at_row_item, after_item, after_initializer, after_comma, parameters_open, parameter_specifiers, parameter_name, parameter_comma, parameters_closed, block_item, after_static, at_statement, after_statement, test_open, do_open, for_open, for_first, for_second, for_third, default_colon, goto_name, returning, statement_end, operand, named, indexed, arguments, opened, cast_specifiers, complete}
-use Rattle.pk_grammar.specs.Machine.Steps.{block_nesting, site_nesting, naming_nesting, initializing_nesting, enumeration_nesting, enumerating_nesting, operand_level}
+use Rattle.pk_grammar.specs.Grammar.{binary_sign, unary_sign, step_sign, assignment_sign, punctuator_at, punctuator, keyword_at, keyword, any_expression, assignment_expression, conditional_expression, strength, weakest_operator, cast_expression, unary_expression, postfix_expression, Fits, AllFit, operators_in, commas_in, AreBeforeBraces, all_of, words, specifiers, spelled, optional, enumerator, enumerators, type_words, array_length, dimensions, initializer_item, initializer_items, declarator, declarators, OpenEnd, test, optional_static, for_start, statement, block_items, stored, optional_name, open_length, parameter, IsVoidAlone, parameters, names, externals}
+use Rattle.pk_grammar.specs.Machine.States.{Head, OpenBlock, function_block, inner_block, Outer, in_block, in_label, in_case, in_default, in_if, in_else, in_switch, in_while, in_do, in_for, Site, in_a_block, in_a_for, outside, Declaring, Declared, EnumerationSite, in_declaration, in_typedef, Enumerating, Enumerated, Naming, Initializing, Initialized, Receiving, Purpose, as_statement, as_label, as_test, as_last_test, as_first, as_second, as_third, as_result, as_length, as_columns, as_value, as_item, as_row_item, as_enumerator, as_parameter_length, as_parameter_columns, Context, as_whole, in_parentheses, in_index, in_column, in_call, in_prefix, in_unary, in_cast, in_binary, in_choice, in_alternative, in_assignment, in_comma, State, top, after_storage, after_typedef, type_specifiers, after_type_name, type_name_comma, at_enumerator, after_enumerator_name, after_braces, after_specifiers, after_name, after_length, after_columns, after_assign, at_initializer_item, at_row_item, after_item, after_initializer, after_comma, parameters_open, parameter_specifiers, parameter_name, parameter_bracket, parameter_length, parameter_end, parameter_comma, parameters_closed, block_item, after_static, at_statement, after_statement, test_open, do_open, for_open, for_first, for_second, for_third, default_colon, goto_name, returning, statement_end, operand, named, indexed, arguments, opened, cast_specifiers, complete}
+use Rattle.pk_grammar.specs.Machine.Steps.{block_nesting, site_nesting, naming_nesting, initializing_nesting, enumeration_nesting, enumerating_nesting, operand_level, with_brackets}
 use Rattle.pk_grammar.proofs.WordLemmas.{AreShaped}
 use Rattle.pk_grammar.proofs.SpellsSigns.{testing_keyword}
 use Rattle.pk_grammar.proofs.SpellsWords.{Words, ◌▹◌, before_as}
@@ -186,6 +186,14 @@ to_row_item d at es =
 abbrev pub to_columns : Declaring → Identifier → ExpressionTree → Words
 to_columns d id e = to_declarator d ▹ Identified id (site_nesting d.site) ▹ array_length (Some e) (site_nesting d.site)
 
+-- up to a parameter
+abbrev pub to_parameter : Head → List ParameterTree → Words
+to_parameter h ps = to_parameters h ▹ punctuator mark.OpenParenthesis 1 ▹ parameters_before ps 1
+
+-- up to a parameter's brackets
+abbrev pub to_brackets : Receiving → Words
+to_brackets d = to_parameter d.head d.before ▹ specifiers d.specifiers 1 ▹ optional_name d.name 1
+
 -- up to an expression that isn't part of another one, and its nesting
 abbrev pub to_expression : Purpose → Words
 to_expression (as_statement n o) = When (n ≡ outer_nesting o) (to_statement o)
@@ -202,6 +210,8 @@ to_expression (as_value d) = to_value d
 to_expression (as_enumerator d id) = to_enumerator d ▹ Identified id (enumerating_nesting d) ▹ punctuator mark.Assign (enumerating_nesting d)
 to_expression (as_item d) = to_next_item d
 to_expression (as_row_item d at es) = to_row_item d at es
+to_expression (as_parameter_length d) = to_brackets d ▹ punctuator mark.OpenBracket 2
+to_expression (as_parameter_columns d l) = to_brackets d ▹ open_length l 1 ▹ punctuator mark.OpenBracket 2
 
 abbrev pub expression_nesting : Purpose → ℕ
 expression_nesting (as_statement n o) = n + 1
@@ -218,6 +228,8 @@ expression_nesting (as_value d) = naming_nesting d
 expression_nesting (as_item d) = initializing_nesting d
 expression_nesting (as_row_item d at es) = initializing_nesting d
 expression_nesting (as_enumerator d id) = enumerating_nesting d
+expression_nesting (as_parameter_length d) = 2
+expression_nesting (as_parameter_columns d l) = 2
 
 -- the nesting of an operand that is part of this
 abbrev pub operand_nesting : Context → ℕ
@@ -291,9 +303,12 @@ Spells (after_item d) = to_items_end d
 Spells (after_initializer d) = to_declarator_end d
 Spells (after_comma d) = to_declarator d
 Spells (parameters_open h) = to_parameters h ▹ punctuator mark.OpenParenthesis 1
-Spells (parameter_specifiers h ps specs) = to_parameters h ▹ punctuator mark.OpenParenthesis 1 ▹ parameters_before ps 1 ▹ open_words specs 1
-Spells (parameter_name h ps p) = When (¬ IsVoidAlone p) (to_parameters h ▹ punctuator mark.OpenParenthesis 1 ▹ parameters_before ps 1 ▹ parameter p 1)
-Spells (parameter_comma h ps) = to_parameters h ▹ punctuator mark.OpenParenthesis 1 ▹ parameters_before ps 1
+Spells (parameter_specifiers h ps specs) = to_parameter h ps ▹ open_words specs 1
+Spells (parameter_name d) = When (¬ IsVoidAlone (with_brackets d None)) (to_brackets d)
+Spells (parameter_bracket d) = to_brackets d ▹ punctuator mark.OpenBracket 2
+Spells (parameter_length d l) = to_brackets d ▹ open_length l 1
+Spells (parameter_end h ps p) = When (¬ IsVoidAlone p) (to_parameter h ps ▹ parameter p 1)
+Spells (parameter_comma h ps) = to_parameter h ps
 Spells (parameters_closed h ps) = to_body h ps
 Spells (block_item b) = to_item b
 Spells (after_static b at) = to_item b ▹ optional_static (Some at) (block_nesting b)

@@ -22,7 +22,7 @@ use Rattle.pk_ast.specs.declared.operators.AssignmentOperator.TheVariants as asg
 use Rattle.pk_ast.specs.declared.units.Storage.{Storage}
 use Rattle.pk_ast.specs.declared.units.StorageWord.{StorageWord}
 use Rattle.pk_ast.specs.declared.units.StorageWord.TheVariants as storage
-use Rattle.pk_ast.specs.Trees.{OneOrMore, ExpressionTree, name, call, index, element, constant, character, parenthesized, postfix, prefix, unary, cast, binary, conditional, assignment, comma, ExpressionTrees, no_expressions, expression_then, InitializerItemTree, item_value, item_row, InitializerTree, single, braced, DimensionsTree, DeclaratorTree, EnumeratorTree, EnumerationTree, DeclarationTree, ForStartTree, declaration, expression, StatementTree, block, empty, expression_statement, label, case, default, if_then, if_else, switch, while, do_while, for_loop, goto, continue, break, return, ItemTrees, no_items, declaration_then, statement_then, BlockTree, ParameterTree, ExternalTree, function, objects, type_names}
+use Rattle.pk_ast.specs.Trees.{OneOrMore, ExpressionTree, name, call, index, element, constant, character, parenthesized, postfix, prefix, unary, cast, binary, conditional, assignment, comma, ExpressionTrees, no_expressions, expression_then, InitializerItemTree, item_value, item_row, InitializerTree, single, braced, DimensionsTree, DeclaratorTree, EnumeratorTree, EnumerationTree, DeclarationTree, ForStartTree, declaration, expression, StatementTree, block, empty, expression_statement, label, case, default, if_then, if_else, switch, while, do_while, for_loop, goto, continue, break, return, ItemTrees, no_items, declaration_then, statement_then, BlockTree, BracketsTree, ParameterTree, ExternalTree, function, objects, type_names}
 use Rattle.pk_grammar.specs.Languages.{Marked, Language, Nothing, One, At, Any, Identified, ◌⊙◌, Inside, Past, Optional, Where}
 
 -- Signs
@@ -476,12 +476,22 @@ abbrev pub optional_name : Option Identifier → Language
 optional_name None = Nothing
 optional_name (Some id) = Identified id
 
+-- a length in brackets, or empty ones
+abbrev pub open_length : Option ExpressionTree → Language
+open_length e =
+    Inside (punctuator mark.OpenBracket ⊙ optional conditional_expression e) ⊙ punctuator mark.CloseBracket
+
+abbrev pub brackets : Option BracketsTree → Language
+brackets None = Nothing
+brackets (Some b) = open_length b.length ⊙ array_length b.columns
+
 abbrev pub parameter : ParameterTree → Language
-parameter p = specifiers p.specifiers ⊙ optional_name p.name
+parameter p = specifiers p.specifiers ⊙ optional_name p.name ⊙ brackets p.brackets
 
 -- the word `void` and nothing else
 abbrev pub IsVoidAlone : ParameterTree → Type 0
-IsVoidAlone p = (p.specifiers.first.word ≡ word.Void) × (p.specifiers.more ≡ []) × (p.name ≡ None)
+IsVoidAlone p =
+    (p.specifiers.first.word ≡ word.Void) × (p.specifiers.more ≡ []) × (p.name ≡ None) × (p.brackets ≡ None)
 
 -- Parameters with commas between them. Without any there is nothing, or `void` alone, which is no parameter.
 abbrev pub more_parameters : List ParameterTree → Language

@@ -4,6 +4,8 @@ mod RunInitializers
 mod InitializerLemmas
 mod RunDeclarations
 mod DeclarationLemmas
+mod RunParameters
+mod ParameterLemmas
 mod RunExternals
 mod ExternalLemmas
 mod RunTypeNames

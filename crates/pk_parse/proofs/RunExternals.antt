@@ -1,6 +1,5 @@
 -- What is answered within external definitions, token by token.
-use Rattle.std.proofs.Common.{◌≡◌, ◌≢◌, List, [], ◌∷◌, ◌++◌, Option, Some, None, Bool, true, false, refl, sym, ap, subst, ◌∙◌, arith}
-use Rattle.pk_parse_expression.proofs.RunOperands.{run_words}
+use Rattle.std.proofs.Common.{◌≡◌, ◌≢◌, List, [], ◌∷◌, Option, Some, None, Bool, true, false, refl, sym, ap, ◌∙◌, arith}
 use Rattle.pk_ast.specs.Lists.{one}
 use Rattle.pk_lex.specs.declared.token.Token.{Token}
 use Rattle.pk_lex.specs.declared.token.Kind.{Kind}
@@ -12,96 +11,16 @@ use Rattle.pk_ast.specs.declared.units.Storage.{Storage}
 use Rattle.pk_ast.specs.declared.units.StorageWord.{StorageWord}
 use Rattle.pk_ast.specs.Trees.{no_items, ParameterTree, ExternalTree, OneOrMore}
 use Rattle.pk_grammar.specs.declared.signs.Fixed.TheVariants as fixed
-use Rattle.pk_grammar.specs.Languages.{identifier_of}
 use Rattle.pk_grammar.specs.Machine.Signs.{is_fixed, specifier_word, storage_word}
-use Rattle.pk_grammar.specs.Machine.States.{Head, function_block, outside, top, after_storage, after_specifiers, after_name, parameters_open, parameter_specifiers, parameter_name, parameter_comma, parameters_closed, block_item}
-use Rattle.pk_grammar.specs.Machine.Steps.{taken, refused, begin_external, storage_or_specifier, storage_at, begin_parameter, last_parameter, more_parameter, next_word, end_in_enum, step}
+use Rattle.pk_grammar.specs.Machine.States.{Head, function_block, outside, top, after_storage, after_specifiers, after_name, parameters_open, parameters_closed, block_item}
+use Rattle.pk_grammar.specs.Machine.Steps.{taken, begin_external, storage_or_specifier, storage_at, step}
 use Rattle.pk_grammar.specs.Machine.Running.{trees, syntax, first_of_all, run}
 use Rattle.pk_grammar.proofs.CompleteSigns.{specifier_alone}
-use Rattle.pk_grammar.proofs.CompleteOperands.{same_false, same_true}
-use Rattle.pk_grammar.proofs.CompleteExternals.{step_no_parameters, step_no_parameter}
+use Rattle.pk_grammar.proofs.CompleteOperands.{same_false}
 use Rattle.pk_grammar.proofs.SpellsSigns.{is_this}
-use Rattle.pk_parse_expression.specs.Parsing.{Begins, BeginsWithWord, words}
-use Rattle.pk_parse_expression.proofs.RunLemmas.{run_takes, run_refused, run_alike, first_is}
-use Rattle.pk_parse.specs.Parts.{named_first, EndsParameter, parameter_state, after_function, storage_state}
-
--- Parameters
-
-step_parameter_name : (h : Head) (ps : List ParameterTree) (specs : OneOrMore Specifier) (t : Token) → next_word specs t ≡ None → end_in_enum specs ≡ false → is_fixed fixed.Name t.kind ≡ true →
-    step (parameter_specifiers h ps specs) t ≡ taken 1 (parameter_name h ps (record { specifiers = specs; name = Some (identifier_of t) }))
-step_parameter_name h ps specs t none f b = ap (λ w. more_parameter h ps specs t w) none ∙ same_false (end_in_enum specs) _ _ f ∙ same_true (is_fixed fixed.Name t.kind) _ _ b
-
-module _ (end : Token) (h : Head) (ts : List Token) where
-  pub run_no_parameters : (t : Token) (rest : List Token) → Begins fixed.CloseParenthesis ts t rest → run end (parameters_open h) ts ≡ run end (parameters_closed h []) rest
-  run_no_parameters t rest b = run_takes end (parameters_open h) ts t rest _ _ b.cut (step_no_parameters h t (is_this fixed.CloseParenthesis t.kind b.is)) (omega arith)
-
-  pub run_parameters : is_fixed fixed.CloseParenthesis (first_of_all end ts).kind ≡ false → run end (parameters_open h) ts ≡ run end (parameter_comma h []) ts
-  run_parameters f = let t = first_of_all end ts in run_alike end (parameters_open h) (parameter_comma h []) ts (same_false (is_fixed fixed.CloseParenthesis t.kind) _ _ f)
-
-module _ (end : Token) (h : Head) (ps : List ParameterTree) (ts : List Token) where
-  pub run_parameter : (s : Specifier) (rest : List Token) → BeginsWithWord specifier_word ts s rest → run end (parameter_comma h ps) ts ≡ run end (parameter_specifiers h ps (one s)) rest
-  run_parameter s rest b =
-      run_takes end (parameter_comma h ps) ts b.token rest _ _ b.cut (ap (λ w. begin_parameter h ps b.token w) b.is) (omega arith)
-      ∙ ap (λ q. run end (parameter_specifiers h ps (one q)) rest) (sym b.specifier)
-
-  pub no_parameter : specifier_word (first_of_all end ts) ≡ None → run end (parameter_comma h ps) ts ≡ syntax (first_of_all end ts).at
-  no_parameter e = let t = first_of_all end ts in run_refused end (parameter_comma h ps) ts (ap (λ w. begin_parameter h ps t w) e)
-
-  pub run_parameter_words : (specs : OneOrMore Specifier) → run end (parameter_specifiers h ps specs) ts ≡ run end (parameter_specifiers h ps (words specs ts).0) (words specs ts).1
-  run_parameter_words specs = run_words end (λ q. parameter_specifiers h ps q) 1 (omega arith) (λ q t w e. ap (λ v. more_parameter h ps q t v) e) ts specs
-
-  pub no_type : (specs : OneOrMore Specifier) → next_word specs (first_of_all end ts) ≡ None → end_in_enum specs ≡ true → run end (parameter_specifiers h ps specs) ts ≡ syntax (first_of_all end ts).at
-  no_type specs none e = run_refused end (parameter_specifiers h ps specs) ts (step_no_parameter h ps specs (first_of_all end ts) none e)
-
-  pub run_parameter_name : (specs : OneOrMore Specifier) (t : Token) (rest : List Token) → next_word specs (first_of_all end ts) ≡ None → end_in_enum specs ≡ false → Begins fixed.Name ts t rest →
-      run end (parameter_specifiers h ps specs) ts ≡ run end (parameter_name h ps (record { specifiers = specs; name = Some (identifier_of t) })) rest
-  run_parameter_name specs t rest none f b =
-      run_takes end (parameter_specifiers h ps specs) ts t rest _ _ b.cut
-      (step_parameter_name h ps specs t (sym (ap (λ q. next_word specs q) (first_is end ts t rest b.cut)) ∙ none) f b.is) (omega arith)
-
--- the parameters, where this one is the last
-abbrev pub with_last : List ParameterTree → ParameterTree → Option Identifier → List ParameterTree
-with_last ps p None = last_parameter ps p.specifiers
-with_last ps p (Some id) = ps ++ p ∷ []
-
-step_parameter_close : (end : Token) (h : Head) (ps : List ParameterTree) (p : ParameterTree) (name : Option Identifier) (t : Token) (rest : List Token) → EndsParameter end p.specifiers name (t ∷ rest) →
-    t.kind ≡ kind.Punctuator mark.CloseParenthesis → step (parameter_state h ps p name) t ≡ taken 0 (parameters_closed h (with_last ps p name))
-step_parameter_close end h ps p None t rest ends e = ap (λ w. more_parameter h ps p.specifiers t w) ends.0 ∙ same_false (end_in_enum p.specifiers) _ _ ends.2 ∙ rw e
-step_parameter_close end h ps p (Some id) t rest ends e = rw e
-
-unnamed : (p : ParameterTree) → p.name ≡ None → record { specifiers = p.specifiers; name = None } ≡ p
-unnamed p e = ap (λ q. record { specifiers = p.specifiers; name = q }) (sym e)
-
-step_parameter_comma : (end : Token) (h : Head) (ps : List ParameterTree) (p : ParameterTree) (name : Option Identifier) (t : Token) (rest : List Token) → EndsParameter end p.specifiers name (t ∷ rest) → p.name ≡ name →
-    t.kind ≡ kind.Punctuator mark.Comma → step (parameter_state h ps p name) t ≡ taken 1 (parameter_comma h (ps ++ p ∷ []))
-step_parameter_comma end h ps p None t rest ends same e =
-    ap (λ w. more_parameter h ps p.specifiers t w) ends.0 ∙ same_false (end_in_enum p.specifiers) _ _ ends.2
-    ∙ rw e (ap (λ q. taken 1 (parameter_comma h (ps ++ q ∷ []))) (unnamed p same))
-step_parameter_comma end h ps p (Some id) t rest ends same e = rw e
-
-refused_parameter : (end : Token) (h : Head) (ps : List ParameterTree) (p : ParameterTree) (name : Option Identifier) (ts : List Token) → EndsParameter end p.specifiers name ts →
-    is_fixed fixed.CloseParenthesis (first_of_all end ts).kind ≡ false → is_fixed fixed.Comma (first_of_all end ts).kind ≡ false → step (parameter_state h ps p name) (first_of_all end ts) ≡ refused
-refused_parameter end h ps p None ts ends f g =
-    let t = first_of_all end ts in
-    ap (λ w. more_parameter h ps p.specifiers t w) ends.0 ∙ same_false (end_in_enum p.specifiers) _ _ ends.2 ∙ same_false (is_fixed fixed.Name t.kind) _ _ ends.1 ∙ same_false (is_fixed fixed.Comma t.kind) _ _ g
-    ∙ same_false (is_fixed fixed.CloseParenthesis t.kind) _ _ f
-refused_parameter end h ps p (Some id) ts ends f g =
-    let t = first_of_all end ts in same_false (is_fixed fixed.Comma t.kind) _ _ g ∙ same_false (is_fixed fixed.CloseParenthesis t.kind) _ _ f
-
-module _ (end : Token) (h : Head) (ps : List ParameterTree) (p : ParameterTree) (name : Option Identifier) (ts : List Token) (ends : EndsParameter end p.specifiers name ts) where
-  pub run_parameter_close : (t : Token) (rest : List Token) → Begins fixed.CloseParenthesis ts t rest → run end (parameter_state h ps p name) ts ≡ run end (parameters_closed h (with_last ps p name)) rest
-  run_parameter_close t rest b =
-      run_takes end (parameter_state h ps p name) ts t rest _ _ b.cut
-      (step_parameter_close end h ps p name t rest (subst (λ q. EndsParameter end p.specifiers name q) b.cut ends) (is_this fixed.CloseParenthesis t.kind b.is)) (omega arith)
-
-  pub run_parameter_comma : (t : Token) (rest : List Token) → p.name ≡ name → Begins fixed.Comma ts t rest → run end (parameter_state h ps p name) ts ≡ run end (parameter_comma h (ps ++ p ∷ [])) rest
-  run_parameter_comma t rest same b =
-      run_takes end (parameter_state h ps p name) ts t rest _ _ b.cut
-      (step_parameter_comma end h ps p name t rest (subst (λ q. EndsParameter end p.specifiers name q) b.cut ends) same (is_this fixed.Comma t.kind b.is)) (omega arith)
-
-  pub no_parameter_end : is_fixed fixed.CloseParenthesis (first_of_all end ts).kind ≡ false → is_fixed fixed.Comma (first_of_all end ts).kind ≡ false →
-      run end (parameter_state h ps p name) ts ≡ syntax (first_of_all end ts).at
-  no_parameter_end f g = run_refused end (parameter_state h ps p name) ts (refused_parameter end h ps p name ts ends f g)
+use Rattle.pk_parse_expression.specs.Parsing.{Begins, BeginsWithWord}
+use Rattle.pk_parse_expression.proofs.RunLemmas.{run_takes, run_refused}
+use Rattle.pk_parse.specs.Parts.{named_first, after_function, storage_state}
 
 -- Functions
 

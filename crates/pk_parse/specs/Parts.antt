@@ -7,13 +7,14 @@ use Rattle.pk_ast.specs.declared.declarations.Specifier.{Specifier}
 use Rattle.pk_ast.specs.declared.expressions.Identifier.{Identifier}
 use Rattle.pk_ast.specs.declared.units.Storage.{Storage}
 use Rattle.pk_ast.specs.Lists.{append_items}
-use Rattle.pk_ast.specs.Trees.{OneOrMore, ExpressionTree, ExpressionTrees, expression_then, InitializerItemTree, item_row, braced, DeclaratorTree, EnumeratorTree, EnumerationTree, block, ItemTrees, no_items, BlockTree, ParameterTree, TypedefTree, ExternalTree, function, type_names}
+use Rattle.pk_ast.specs.Trees.{OneOrMore, ExpressionTree, ExpressionTrees, expression_then, InitializerItemTree, item_row, braced, DeclaratorTree, EnumeratorTree, EnumerationTree, block, ItemTrees, no_items, BlockTree, BracketsTree, ParameterTree, TypedefTree, ExternalTree, function, type_names}
 use Rattle.pk_grammar.specs.declared.signs.Fixed.{Fixed}
 use Rattle.pk_grammar.specs.declared.signs.Fixed.TheVariants as fixed
+use Rattle.pk_grammar.specs.Languages.{identifier_of}
 use Rattle.pk_grammar.specs.Grammar.{conditional_expression, any_expression}
 use Rattle.pk_grammar.specs.Machine.Signs.{is_fixed, specifier_word}
-use Rattle.pk_grammar.specs.Machine.States.{Head, OpenBlock, function_block, inner_block, Site, in_a_block, in_a_for, outside, Declaring, Naming, Initializing, Initialized, EnumerationSite, in_declaration, in_typedef, Enumerating, Enumerated, Purpose, as_enumerator, as_whole, State, top, after_storage, type_specifiers, at_enumerator, after_enumerator_name, after_braces, after_specifiers, after_name, after_length, after_columns, at_initializer_item, at_row_item, after_item, after_initializer, parameter_specifiers, parameter_name, block_item, after_static, after_statement, operand, complete}
-use Rattle.pk_grammar.specs.Machine.Steps.{refused, taken, wanted, site_nesting, enumerating_nesting, initializing_nesting, with_dimensions, with_initializer, with_item, declared_at, next_word, end_in_enum, may_open, open_parameters, purpose_level, end_purpose, step}
+use Rattle.pk_grammar.specs.Machine.States.{Head, OpenBlock, function_block, inner_block, Site, in_a_block, in_a_for, outside, Declaring, Naming, Initializing, Initialized, EnumerationSite, in_declaration, in_typedef, Enumerating, Enumerated, Receiving, Purpose, as_enumerator, as_parameter_length, as_parameter_columns, as_whole, State, top, after_storage, type_specifiers, at_enumerator, after_enumerator_name, after_braces, after_specifiers, after_name, after_length, after_columns, at_initializer_item, at_row_item, after_item, after_initializer, parameter_specifiers, parameter_name, parameter_length, parameter_end, block_item, after_static, after_statement, operand, complete}
+use Rattle.pk_grammar.specs.Machine.Steps.{refused, taken, wanted, site_nesting, enumerating_nesting, initializing_nesting, with_dimensions, with_initializer, with_item, with_brackets, receiving, declared_at, next_word, end_in_enum, may_open, open_parameters, purpose_level, end_purpose, step}
 use Rattle.pk_grammar.specs.Machine.Running.{first_of_all, run}
 use Rattle.pk_parse_expression.specs.Parsing.{Begins, EndsAt, UpTo, Reads}
 
@@ -259,20 +260,51 @@ abbrev pub after_block : OpenBlock → BlockTree → State
 after_block (function_block h ps at items) b = after_function h ps (Some b)
 after_block (inner_block n at items o) b = after_statement (block b.opened b.items b.closed) o
 
--- a parameter was read, with a name or without
-abbrev pub parameter_state : Head → List ParameterTree → ParameterTree → Option Identifier → State
-parameter_state h ps p None = parameter_specifiers h ps p.specifiers
-parameter_state h ps p (Some id) = parameter_name h ps p
+-- behind the words of a parameter's type, and its name where it has one
+abbrev pub name_state : Head → List ParameterTree → OneOrMore Specifier → Option Identifier → State
+name_state h ps specs None = parameter_specifiers h ps specs
+name_state h ps specs (Some id) = parameter_name (receiving h ps specs (Some id))
+
+-- no name comes, or this one
+abbrev pub IsName : Token → List Token → Option Identifier → List Token → Type 0
+IsName end ts None rest = (rest ≡ ts) × (is_fixed fixed.Name (first_of_all end ts).kind ≡ false)
+IsName end ts (Some id) rest = (t : Token) × Begins fixed.Name ts t rest × (id ≡ identifier_of t)
+
+-- a length in the brackets of a parameter, or its columns behind this length
+abbrev pub bracket_purpose : Receiving → Option (Option ExpressionTree) → Purpose
+bracket_purpose d None = as_parameter_length d
+bracket_purpose d (Some length) = as_parameter_columns d length
+
+-- behind the brackets
+abbrev pub bracketed : Receiving → Option ExpressionTree → Option ExpressionTree → State
+bracketed d length columns =
+    parameter_end d.head d.before (with_brackets d (Some (record { length = length; columns = columns })))
+
+-- behind its `]`
+abbrev pub next_bracket_state : Receiving → Option (Option ExpressionTree) → ExpressionTree → State
+next_bracket_state d None e = parameter_length d (Some e)
+next_bracket_state d (Some length) e = bracketed d length (Some e)
+
+-- a parameter was read; words of a type alone may be `void`
+abbrev pub parameter_state : Head → List ParameterTree → ParameterTree → Option Identifier → Option BracketsTree →
+    State
+parameter_state h ps p None None = parameter_specifiers h ps p.specifiers
+parameter_state h ps p None (Some b) = parameter_end h ps p
+parameter_state h ps p (Some id) b = parameter_end h ps p
 
 abbrev pub after_parameter : Head → List ParameterTree → ParameterTree → State
-after_parameter h ps p = parameter_state h ps p p.name
+after_parameter h ps p = parameter_state h ps p p.name p.brackets
 
--- behind a parameter without a name comes neither a further word of its type nor a name, and `enum` isn't its last word
-abbrev pub EndsParameter : Token → OneOrMore Specifier → Option Identifier → List Token → Type 0
-EndsParameter end words None ts =
+-- behind words of a type alone comes neither a further one nor a name nor a `[`, and `enum` isn't the last one
+abbrev pub EndsWords : Token → OneOrMore Specifier → Option Identifier → Option BracketsTree → List Token → Type 0
+EndsWords end words None None ts =
     (next_word words (first_of_all end ts) ≡ None) × (is_fixed fixed.Name (first_of_all end ts).kind ≡ false)
-    × (end_in_enum words ≡ false)
-EndsParameter end words (Some id) ts = Unit {0}
+    × (is_fixed fixed.OpenBracket (first_of_all end ts).kind ≡ false) × (end_in_enum words ≡ false)
+EndsWords end words None (Some b) ts = Unit {0}
+EndsWords end words (Some id) b ts = Unit {0}
+
+abbrev pub EndsParameter : Token → ParameterTree → List Token → Type 0
+EndsParameter end p ts = EndsWords end p.specifiers p.name p.brackets ts
 
 abbrev pub storage_state : List ExternalTree → Option Storage → State
 storage_state before None = top before

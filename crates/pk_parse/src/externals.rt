@@ -1,31 +1,123 @@
 // External definitions.
 
-ghost use Rattle.std.specs.Prelude.{◌≡◌, ◌≢◌, ◌<◌, ◌≤◌, ◌↔◌, List, [], ◌∷◌, ◌++◌, Some, None, false, IsTrue, length, MatchOption, MatchResult, option_map};
+ghost use Rattle.std.specs.Prelude.{◌≡◌, ◌≢◌, ◌<◌, ◌≤◌, ◌↔◌, List, [], ◌∷◌, ◌++◌, Option, Some, None, false, IsTrue, length, MatchOption, MatchResult, option_map};
 ghost use Rattle.pk_ast.specs.Lists.{one};
 ghost use Rattle.pk_ast.specs.Trees as tree;
-ghost use Rattle.pk_ast.specs.Views.{specifiers_tree, enumeration_tree, block_tree, parameter_tree, parameter_trees, typedef_tree, external_tree, external_trees};
+ghost use Rattle.pk_ast.specs.Views.{specifiers_tree, expression_tree, enumeration_tree, block_tree, brackets_tree, parameter_tree, parameter_trees, typedef_tree, external_tree, external_trees};
 ghost use Rattle.pk_grammar.specs.Grammar.{IsVoidAlone};
 ghost use Rattle.pk_grammar.specs.Machine.Running.{trees, first_of_all, run, Fails};
 ghost use Rattle.pk_grammar.specs.Machine.Signs as signs;
 ghost use Rattle.pk_grammar.specs.Machine.States as states;
-ghost use Rattle.pk_parse.specs.Parts.{EndsType, after_parameter, EndsParameter, after_function, after_type_names, with_names, storage_state};
+ghost use Rattle.pk_grammar.specs.Machine.Steps as steps;
+ghost use Rattle.pk_parse.specs.Parts.{EndsType, IsName, bracket_purpose, next_bracket_state, bracketed, after_parameter, EndsParameter, after_function, after_type_names, with_names, storage_state};
 
 use crate::declarations::{declarators, declared};
 use crate::enumerations::type_words;
 use crate::statements::block;
 use pk_ast::{
-    Block, Declaration, Enumeration, External, Function, Identifier, Parameter, Specifier,
-    Specifiers, Storage, Typedef,
+    Block, Brackets, Declaration, Enumeration, Expression, External, Function, Identifier,
+    Parameter, Specifier, Specifiers, Storage, Typedef,
 };
 use pk_grammar::{Fixed, ParseError, is, is_void_word, storage_word};
 use pk_lex::{Kind, Token};
 use pk_parse_expression::{Parser, identifier, keeping};
 
+// Words of a type alone: neither a name nor brackets.
+fn is_words_alone(p: &Parameter) -> bool
+    ensures { IsTrue result ↔ ((parameter_tree p.now).name ≡ None) × ((parameter_tree p.now).brackets ≡ None) }
+{
+    match &p.brackets {
+        Some(_) => false,
+        None => p.name.is_none(),
+    }
+}
+
 // The word `void` and nothing else, which is no parameter.
 fn is_void_alone(p: &Parameter) -> bool
     ensures { IsTrue result ↔ IsVoidAlone (parameter_tree p.now) }
 {
-    p.name.is_none() && p.specifiers.more.is_empty() && is_void_word(p.specifiers.first.word)
+    is_words_alone(p) && p.specifiers.more.is_empty() && is_void_word(p.specifiers.first.word)
+}
+
+// A parameter's name behind the words of its type, where one comes.
+fn parameter_name<'a>(parser: Parser, tokens: &'a [Token]) -> (Option<Identifier>, &'a [Token])
+    ensures name { IsName parser.end tokens.now result.0 result.1.now }
+    ensures rest { length result.1.now ≤ length tokens.now }
+{
+    match parser.take(tokens, Fixed::Name) {
+        Some((token, rest)) => (Some(identifier(token)), rest),
+        None => (None, tokens),
+    }
+}
+
+// A length in the brackets of a parameter, or its columns, and the `]`.
+fn closed_length<'a>(
+    parser: Parser,
+    tokens: &'a [Token],
+) -> Result<(Expression, &'a [Token]), ParseError>
+    ensures { MatchResult result
+        (λ r. ((d : states.Receiving) (before : Option (Option tree.ExpressionTree)) →
+        run parser.end (states.operand 2 (states.as_whole (bracket_purpose d before))) tokens.now
+        ≡ run parser.end (next_bracket_state d before (expression_tree r.0)) r.1.now)
+        × (length r.1.now ≤ length tokens.now))
+        (λ x. (d : states.Receiving) (before : Option (Option tree.ExpressionTree)) →
+        Fails (run parser.end (states.operand 2 (states.as_whole (bracket_purpose d before))) tokens.now) x) }
+{
+    let (length, rest) = parser.conditional(tokens, 2)?;
+    let ((_, last), length) = keeping(parser.expect(rest, Fixed::CloseBracket), length)?;
+    Ok((length, last))
+}
+
+// A parameter's length, after the `[`, which may be left out, and the `]`.
+fn open_length<'a>(
+    parser: Parser,
+    tokens: &'a [Token],
+) -> Result<(Option<Expression>, &'a [Token]), ParseError>
+    ensures { MatchResult result
+        (λ r. ((d : states.Receiving) → run parser.end (states.parameter_bracket d) tokens.now
+        ≡ run parser.end (states.parameter_length d (option_map expression_tree r.0)) r.1.now)
+        × (length r.1.now ≤ length tokens.now))
+        (λ x. (d : states.Receiving) → Fails (run parser.end (states.parameter_bracket d) tokens.now) x) }
+{
+    if let Some((_, last)) = parser.take(tokens, Fixed::CloseBracket) {
+        return Ok((None, last));
+    }
+    let (length, last) = closed_length(parser, tokens)?;
+    Ok((Some(length), last))
+}
+
+// A parameter's columns, where it has some.
+fn columns<'a>(
+    parser: Parser,
+    tokens: &'a [Token],
+) -> Result<(Option<Expression>, &'a [Token]), ParseError>
+    ensures { MatchResult result
+        (λ r. ((d : states.Receiving) (l : Option tree.ExpressionTree) →
+        run parser.end (states.parameter_length d l) tokens.now
+        ≡ run parser.end (bracketed d l (option_map expression_tree r.0)) r.1.now)
+        × (length r.1.now ≤ length tokens.now))
+        (λ x. (d : states.Receiving) (l : Option tree.ExpressionTree) →
+        Fails (run parser.end (states.parameter_length d l) tokens.now) x) }
+{
+    let Some((_, after)) = parser.take(tokens, Fixed::OpenBracket) else {
+        return Ok((None, tokens));
+    };
+    let (columns, last) = closed_length(parser, after)?;
+    Ok((Some(columns), last))
+}
+
+// A parameter's brackets, of which the first `[` was read.
+fn brackets<'a>(parser: Parser, tokens: &'a [Token]) -> Result<(Brackets, &'a [Token]), ParseError>
+    ensures { MatchResult result
+        (λ r. ((d : states.Receiving) → run parser.end (states.parameter_bracket d) tokens.now
+        ≡ run parser.end (states.parameter_end d.head d.before
+        (steps.with_brackets d (Some (brackets_tree r.0)))) r.1.now)
+        × (length r.1.now ≤ length tokens.now))
+        (λ x. (d : states.Receiving) → Fails (run parser.end (states.parameter_bracket d) tokens.now) x) }
+{
+    let (length, after) = open_length(parser, tokens)?;
+    let ((columns, rest), length) = keeping(columns(parser, after), length)?;
+    Ok((Brackets::new(length, columns), rest))
 }
 
 // A parameter, of which the first word was read.
@@ -38,16 +130,18 @@ fn parameter<'a>(
         (λ r. ((h : states.Head) (ps : List tree.ParameterTree) →
         run parser.end (states.parameter_specifiers h ps (one first)) tokens.now
         ≡ run parser.end (after_parameter h ps (parameter_tree r.0)) r.1.now)
-        × EndsParameter parser.end (parameter_tree r.0).specifiers (parameter_tree r.0).name r.1.now
+        × EndsParameter parser.end (parameter_tree r.0) r.1.now
         × (length r.1.now ≤ length tokens.now))
         (λ x. (h : states.Head) (ps : List tree.ParameterTree) →
         Fails (run parser.end (states.parameter_specifiers h ps (one first)) tokens.now) x) }
 {
     let (words, rest) = parser.whole_specifiers(first, tokens)?;
-    match parser.take(rest, Fixed::Name) {
-        Some((name, after)) => Ok((Parameter::new(words, Some(identifier(name))), after)),
-        None => Ok((Parameter::new(words, None), rest)),
-    }
+    let (name, after_name) = parameter_name(parser, rest);
+    let Some((_, after)) = parser.take(after_name, Fixed::OpenBracket) else {
+        return Ok((Parameter::new(words, name, None), after_name));
+    };
+    let ((brackets, last), words) = keeping(brackets(parser, after), words)?;
+    Ok((Parameter::new(words, name, Some(brackets)), last))
 }
 
 // A function's parameters, after the `(`, and the `)`.

@@ -17,7 +17,6 @@ use Rattle.pk_type_declaration.specs.Starts.{after_numbers, start_at}
 use Rattle.pk_type_declaration.specs.Walks.{Walked, here, finding, after_name, entering}
 use Rattle.pk_type_declaration.proofs.BareLemmas.{bare, bare_length, bare_dimensions, bare_words, bare_numbers, bare_start}
 use Rattle.pk_type_jump.specs.Labels.{labels_of}
-use Rattle.pk_type_statement.specs.Checks as statements
 use Rattle.pk_type_statement.specs.Trees.{typed_items}
 use Rattle.pk_type_statement.proofs.BareLemmas.{bare_items, bare_typed_items}
 use Rattle.pk_type.specs.Files as files
@@ -104,7 +103,7 @@ unfolding after_parameters
 bare_parameters c [] w = refl
 bare_parameters c (p ∷ ps) w =
     bare_parameters c ps (after_parameter c p w)
-    ∙ ap (after_parameters unchecked ps) (bare_parameter_name c p p.name (finding (c.statements.declarations.words (here w) p.specifiers) w))
+    ∙ ap (after_parameters unchecked ps) (bare_parameter_name c p p.name (finding (c.words (here w) p) w))
 
 bare_body : {F : Type 0} (c : UnitChecks F) (returns : Typing) (b : BlockTree) (w : Walked F) → bare (after_body c returns b w) ≡ after_body unchecked returns b (bare w)
 bare_body c returns b w = ap (λ q. finding (unchecked.jumps w.scoping.text b.items) q.walked) (bare_items c.statements returns (before_body w) b.items)

@@ -24,7 +24,7 @@ use Rattle.pk_type.specs.Files.{Filed, on}
 use Rattle.pk_type.specs.Functions.{after_parameter_name, after_parameter, after_parameters, before_body, after_optional_body, number_of, callee_of, and_entry, with_body, update_at, after_head, leaving_function, after_function}
 use Rattle.pk_type.specs.Signatures.{SignatureTree, signature_of}
 use Rattle.pk_type.specs.Views.{entry_tree}
-use Rattle.pk_type.specs.Rules.{is_redeclared, is_misused, noting}
+use Rattle.pk_type.specs.Rules.{is_redeclared, is_misused, parameter_failures, noting}
 
 abbrev State : Type 0
 State = Walked (Option Failure)
@@ -43,7 +43,7 @@ kept_parameters : (ps : List ParameterTree) (w : State) → Kept w.scoping (afte
 unfolding after_parameters
 kept_parameters [] w = same w.scoping
 kept_parameters (p ∷ ps) w =
-    let a = kept_name p p.name (failing noted (word_failures (here w) p.specifiers) w) in
+    let a = kept_name p p.name (failing noted (parameter_failures (here w) p) w) in
     let b = kept_parameters ps (after_parameter noting p w) in
     record { text = b.text ∙ a.text; outer = b.outer ∙ a.outer }
 

@@ -1,7 +1,9 @@
 -- Parameters from a place on.
 use Rattle.std.proofs.Math.Seq.{drop-cons}
 use Rattle.std.proofs.lemmas.List.{drop_all, append-nil}
-use Rattle.std.proofs.Common.{◌≡◌, ℕ, suc, ◌+◌, ◌<◌, ◌≤◌, List, [], ◌∷◌, ◌++◌, Option, Some, None, false, drop, get_or, length, add-one, append_assoc, ap, sym, ◌∙◌}
+use Rattle.std.proofs.Common.{◌≡◌, ℕ, suc, ◌+◌, ◌<◌, ◌≤◌, List, [], ◌∷◌, ◌++◌, Option, Some, None, Bool, false, drop, get_or, length, add-one, append_assoc, ap, sym, ◌∙◌}
+use Rattle.pk_ctypes.specs.declared.places.Pos.{Pos}
+use Rattle.pk_ctypes.specs.declared.words.Rule.TheVariants as rule
 use Rattle.pk_ast.specs.declared.expressions.Identifier.{Identifier}
 use Rattle.pk_ast.specs.declared.units.Parameter.{Parameter}
 use Rattle.pk_ast.specs.Trees.{ParameterTree}
@@ -9,15 +11,16 @@ use Rattle.pk_ast.specs.Views.{specifiers_tree, parameter_tree, parameter_trees}
 use Rattle.pk_type_scope.specs.declared.declarations.Typing.{Typing}
 use Rattle.pk_type_scope.specs.declared.failures.Failure.{Failure}
 use Rattle.pk_type_scope.specs.Declarations.{Names}
-use Rattle.pk_type_scope.specs.Failures.{noted}
-use Rattle.pk_type_scope.specs.Specifiers.{type_named, word_failures}
+use Rattle.pk_type_scope.specs.Failures.{fails_if, noted}
+use Rattle.pk_type_scope.specs.Specifiers.{type_named}
 use Rattle.pk_type_declaration.specs.declared.words.Words.{Words}
 use Rattle.pk_type_declaration.specs.Declarations.{words_of, after_object}
 use Rattle.pk_type_declaration.specs.Walks.{Walked, here}
 use Rattle.pk_type_declaration.specs.Rules.{failing}
+use Rattle.pk_type_statement.proofs.CaseLemmas.{failing_twice}
 use Rattle.pk_type.specs.Functions.{after_parameter_name, after_parameter, after_parameters}
 use Rattle.pk_type.specs.Signatures.{types_of}
-use Rattle.pk_type.specs.Rules.{noting}
+use Rattle.pk_type.specs.Rules.{parameter_failures, noting}
 
 pub next : (ps : List Parameter) (i : ℕ) (p : Parameter) → i < length ps → p ≡ get_or ps i p → parameter_trees (drop i ps) ≡ parameter_tree p ∷ parameter_trees (drop (i + 1) ps)
 next ps i p h is = rw add-one (ap parameter_trees (drop-cons ps i p h ∙ ap (λ z. z ∷ drop (suc i) ps) (sym is)))
@@ -45,9 +48,16 @@ unfolding after_parameters
 parameters_done w all now p h = ap (λ n. after_parameters noting n w) (sym p) ∙ h
 
 -- a parameter with a name, step by step
-pub named_step : (p : ParameterTree) (x : Identifier) (words : Words) (w v end : State) → p.name ≡ Some x → v ≡ failing noted (word_failures (here w) p.specifiers) w →
+pub named_step : (p : ParameterTree) (x : Identifier) (words : Words) (w v end : State) → p.name ≡ Some x → v ≡ failing noted (parameter_failures (here w) p) w →
     words ≡ words_of (here v) p.specifiers → end ≡ after_object noting.statements.declarations words false None x v → end ≡ after_parameter noting p w
 named_step p x words w v end named noted_words told declared =
     declared ∙ ap (λ (t : Words). after_object noting.statements.declarations t false None x v) told
     ∙ ap (λ (n : Option Identifier). after_parameter_name noting p n v) (sym named)
     ∙ ap (after_parameter_name noting p p.name) noted_words
+
+-- the rows at a parameter's words, and then the one at its brackets
+pub parameter_noted : (a : List Failure) (f g : Bool) (at place : Pos) (w v end : State) → v ≡ failing noted a w → end ≡ failing noted (fails_if f rule.Array at) v → f ≡ g → at ≡ place →
+    end ≡ failing noted (a ++ fails_if g rule.Array place) w
+parameter_noted a f g at place w v end words brackets same there =
+    brackets ∙ ap (failing noted (fails_if f rule.Array at)) words ∙ sym (failing_twice a (fails_if f rule.Array at) w)
+    ∙ ap (λ b. failing noted (a ++ fails_if b rule.Array at) w) same ∙ ap (λ q. failing noted (a ++ fails_if g rule.Array q) w) there

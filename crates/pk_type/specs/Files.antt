@@ -3,12 +3,13 @@ use Rattle.std.specs.Prelude.{ℕ, Bool, is_some, Option, List, [], ◌∷◌, �
 use Rattle.pk_ctypes.specs.declared.places.Pos.{Pos}
 use Rattle.pk_ast.specs.declared.expressions.Identifier.{Identifier}
 use Rattle.pk_ast.specs.declared.units.Storage.{Storage}
-use Rattle.pk_ast.specs.Trees.{DeclaratorTree, DeclarationTree, FunctionTree, ItemTrees}
+use Rattle.pk_ast.specs.Trees.{DeclaratorTree, DeclarationTree, ParameterTree, FunctionTree, ItemTrees}
 use Rattle.pk_typed.specs.declared.values.Variable.TheVariants.{File}
 use Rattle.pk_typed.specs.Trees.{BodyTree, FileObjectTree}
 use Rattle.pk_type_scope.specs.declared.declarations.Declaration.{Declaration}
 use Rattle.pk_type_scope.specs.declared.declarations.Declaration.TheVariants as declared
 use Rattle.pk_type_scope.specs.declared.declarations.Typing.{Typing}
+use Rattle.pk_type_scope.specs.Declarations.{Names}
 use Rattle.pk_type_scope.specs.Scopes.{Scoping}
 use Rattle.pk_type_declaration.specs.declared.words.Words.{Words}
 use Rattle.pk_type_declaration.specs.Declarations.{type_or_int, object_of, text_of, length_at, after_dimensions, length_or_1}
@@ -39,6 +40,8 @@ pub record UnitChecks (F : Type 0) : Type 0 where
   pub object : Option Storage → Scoping → Typing → Identifier → F → F
   -- a function, declared or defined, behind others in these scopes
   pub head : List EntryTree → Scoping → FunctionTree → F → F
+  -- the words of a parameter and its brackets, among these names
+  pub words : Names → ParameterTree → F → F
   -- a parameter of a type without a name, whose words begin at a place
   pub parameter : Typing → Pos → F → F
   -- the labels and the jumps of a body, in a text
@@ -50,6 +53,7 @@ unchecked = record {
   statements = statements.unchecked;
   object = λ storage s t x found. found;
   head = λ entries s f found. found;
+  words = λ d p found. found;
   parameter = λ t at found. found;
   jumps = λ text items found. found;
 }

@@ -34,8 +34,7 @@ after_parameter_name c p (Some x) w =
     after_object c.statements.declarations (words_of (here w) p.specifiers) false None x w
 
 abbrev pub after_parameter : {F : Type 0} → UnitChecks F → ParameterTree → Walked F → Walked F
-after_parameter c p w =
-    after_parameter_name c p p.name (finding (c.statements.declarations.words (here w) p.specifiers) w)
+after_parameter c p w = after_parameter_name c p p.name (finding (c.words (here w) p) w)
 
 unfoldable pub after_parameters : {F : Type 0} → UnitChecks F → List ParameterTree → Walked F → Walked F
 after_parameters c [] w = w

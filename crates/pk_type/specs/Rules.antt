@@ -9,7 +9,7 @@ use Rattle.pk_ctypes.specs.declared.words.Rule.TheVariants as rule
 use Rattle.pk_ast.specs.declared.expressions.Identifier.{Identifier}
 use Rattle.pk_ast.specs.declared.units.Storage.{Storage}
 use Rattle.pk_ast.specs.declared.units.StorageWord.TheVariants.{Static, Extern}
-use Rattle.pk_ast.specs.Trees.{FunctionTree, ItemTrees}
+use Rattle.pk_ast.specs.Trees.{ParameterTree, FunctionTree, ItemTrees}
 use Rattle.pk_type_scope.specs.declared.declarations.Callee.{Callee}
 use Rattle.pk_type_scope.specs.declared.declarations.Callee.TheVariants.{Ordinary, Any, Assume, Assert, Abort}
 use Rattle.pk_type_scope.specs.declared.declarations.Declaration.{Declaration}
@@ -17,7 +17,7 @@ use Rattle.pk_type_scope.specs.declared.declarations.Declaration.TheVariants as 
 use Rattle.pk_type_scope.specs.declared.declarations.Typing.{Typing}
 use Rattle.pk_type_scope.specs.declared.declarations.Typing.TheVariants.{Void, Integer, Unknown}
 use Rattle.pk_type_scope.specs.declared.failures.Failure.{Failure}
-use Rattle.pk_type_scope.specs.Declarations.{is_void}
+use Rattle.pk_type_scope.specs.Declarations.{Names, is_void}
 use Rattle.pk_type_scope.specs.Failures.{fails_if, noted}
 use Rattle.pk_type_scope.specs.Scopes.{Scoping, names_in, spelled}
 use Rattle.pk_type_scope.specs.Specifiers.{word_failures}
@@ -146,12 +146,24 @@ abbrev pub jump_failures : List ℕ → ItemTrees → List Failure
 jump_failures text items =
     let labels = labels_of text items in about_jumps labels (jumps_of text labels.labels items)
 
+-- the place of a name; or this one, where there is none
+abbrev pub place_of_name : Option Identifier → Pos → Pos
+place_of_name None at = at
+place_of_name (Some x) at = x.at
+
+-- array: a parameter with brackets; at its name, or at the first word of one without a name
+abbrev pub parameter_failures : Names → ParameterTree → List Failure
+parameter_failures d p =
+    word_failures d p.specifiers
+    ++ fails_if (is_some p.brackets) rule.Array (place_of_name p.name p.specifiers.first.at)
+
 -- The failures at each form are added. void: a parameter of type void; at its name, or at the first word of one without a name.
 abbrev pub adding : {F : Type 0} → Adding F → UnitChecks F
 adding add = record {
   statements = statements.adding add;
   object = λ storage s t x found. add found (object_failures storage s t x);
   head = λ entries s f found. add found (head_failures entries s f);
+  words = λ d p found. add found (parameter_failures d p);
   parameter = λ t at found. add found (fails_if (is_void t) rule.Void at);
   jumps = λ text items found. add found (jump_failures text items);
 }

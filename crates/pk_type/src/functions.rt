@@ -77,13 +77,32 @@ fn unnamed(walk: &mut Walk<'_>, p: &Parameter) -> Result<(), AllocError>
     })
 }
 
+fn name_place(name: Option<Identifier>, at: Pos) -> Pos
+    ensures { result ≡ rules.place_of_name name at }
+{
+    match name {
+        None => at,
+        Some(name) => name.at,
+    }
+}
+
+// Notes what fails at the words of a parameter, and at its brackets.
+fn note_parameter(walk: &mut Walk<'_>, p: &Parameter)
+    ensures { walked_in walk.new ≡ failing noted
+        (rules.parameter_failures (walks.here (walked_in walk.old)) (parameter_tree p.now)) (walked_in walk.old) }
+{
+    walk.note_words(&p.specifiers);
+    let at = name_place(p.name, p.specifiers.first.at);
+    walk.fail_if(p.brackets.is_some(), Rule::Array, at);
+}
+
 // A parameter, the next object of its function.
 #[tactic(auto, unfolding(pk_ast::specs::Views::parameter_tree))]
 fn parameter(walk: &mut Walk<'_>, alloc: Global, p: &Parameter) -> Result<(), AllocError>
     ensures { OnOk result
         (walked_in walk.new ≡ definitions.after_parameter noting (parameter_tree p.now) (walked_in walk.old)) }
 {
-    walk.note_words(&p.specifiers);
+    note_parameter(walk, p);
     match p.name {
         Some(name) => {
             let words = Words::of(&walk.scope, &p.specifiers);

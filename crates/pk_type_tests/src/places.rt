@@ -14,6 +14,9 @@ void abort(void);int abort(int); => redeclared 1:22
 void x={1}; => void 1:6
 void f(void){void x[2]=1;} => void 1:19
 int f(void abort); => void 1:12
+int f(int b[3]); => array 1:11
+int f(int,int[3]); => array 1:11
+void f(void b[3]); => void 1:13
 int abort={1}; => array 1:5
 int f(int a,void a); => redeclared 1:18
 int f(int abort,int abort); => special 1:11

@@ -8,7 +8,7 @@ use Rattle.pk_ctypes.specs.declared.places.Pos.{Pos}
 use Rattle.pk_ast.specs.declared.declarations.Specifier.{Specifier}
 use Rattle.pk_ast.specs.declared.expressions.Identifier.{Identifier}
 use Rattle.pk_ast.specs.declared.units.Storage.{Storage}
-use Rattle.pk_ast.specs.Names.{specifier_names, expression_names, optional_names, initializer_names, dimensions_names, declarator_names, all_declarator_names, enumeration_names, declaration_names, for_start_names, statement_names, item_names, body_names, optional_name, parameter_names, external_names, names_of}
+use Rattle.pk_ast.specs.Names.{specifier_names, expression_names, optional_names, initializer_names, dimensions_names, declarator_names, all_declarator_names, enumeration_names, declaration_names, for_start_names, statement_names, item_names, body_names, optional_name, brackets_names, parameter_names, external_names, names_of}
 use Rattle.pk_ast.specs.Trees.{OneOrMore, ExpressionTree, ExpressionTrees, no_expressions, expression_then, InitializerTree, single, braced, DimensionsTree, DeclaratorTree, EnumeratorTree, EnumerationTree, DeclarationTree, ForStartTree, declaration, expression, StatementTree, block, empty, expression_statement, label, case, default, if_then, if_else, switch, while, do_while, for_loop, goto, continue, break, return, ItemTrees, no_items, declaration_then, statement_then, BlockTree, ParameterTree, FunctionTree, ExternalTree, function, objects, type_names}
 use Rattle.pk_typed.specs.Trees as tree
 use Rattle.pk_typed.specs.Trees.{LocalTree, BodyTree, FileObjectTree}
@@ -255,10 +255,12 @@ parameters_named : {F : Type 0} (N : OfNames) (text : List ℕ) (c : UnitChecks 
 unfolding after_parameters
 parameters_named N text c [] w q z = z
 parameters_named N text c (p ∷ ps) w q z =
-    let own = specifier_names p.specifiers ++ optional_name p.name in
+    let named = optional_name p.name ++ brackets_names p.brackets in
+    let own = specifier_names p.specifiers ++ named in
     parameters_named N text c ps (after_parameter c p w) (all_right (Spelt N text) own (parameter_names ps) q)
-    (parameter_named N text c p p.name (finding (c.statements.declarations.words (here w) p.specifiers) w)
-    (all_right (Spelt N text) (specifier_names p.specifiers) (optional_name p.name) (all_left (Spelt N text) own (parameter_names ps) q)) z)
+    (parameter_named N text c p p.name (finding (c.words (here w) p) w)
+    (all_left (Spelt N text) (optional_name p.name) (brackets_names p.brackets)
+    (all_right (Spelt N text) (specifier_names p.specifiers) named (all_left (Spelt N text) own (parameter_names ps) q))) z)
 
 -- a function's name is such, and the names of its objects
 record EntryNamed (N : OfNames) (e : EntryTree) : Type 0 where

@@ -92,6 +92,13 @@ pub record Initialized : Type 0 where
   pub brace : Pos
   pub items : OneOrMore InitializerItemTree
 
+-- a parameter of which everything before its brackets was read, and the parameters before it
+pub record Receiving : Type 0 where
+  pub head : Head
+  pub before : List ParameterTree
+  pub specifiers : OneOrMore Specifier
+  pub name : Option Identifier
+
 -- what an expression is for that isn't part of another one
 pub data Purpose : Type 0 where
   as_statement : ℕ → Outer → Purpose
@@ -108,6 +115,8 @@ pub data Purpose : Type 0 where
   as_item : Initializing → Purpose
   as_row_item : Initializing → Pos → ExpressionTrees → Purpose
   as_enumerator : Enumerating → Identifier → Purpose
+  as_parameter_length : Receiving → Purpose
+  as_parameter_columns : Receiving → Option ExpressionTree → Purpose
 
 -- what an expression that is being read is part of; the numbers are the nesting outside
 pub data Context : Type 0 where
@@ -153,7 +162,10 @@ pub data State : Type 0 where
   -- in a function's head
   parameters_open : Head → State
   parameter_specifiers : Head → List ParameterTree → OneOrMore Specifier → State
-  parameter_name : Head → List ParameterTree → ParameterTree → State
+  parameter_name : Receiving → State
+  parameter_bracket : Receiving → State
+  parameter_length : Receiving → Option ExpressionTree → State
+  parameter_end : Head → List ParameterTree → ParameterTree → State
   parameter_comma : Head → List ParameterTree → State
   parameters_closed : Head → List ParameterTree → State
   -- in a block and its statements

@@ -11,7 +11,7 @@ use Rattle.pk_ast.specs.declared.operators.AssignmentOperator.{AssignmentOperato
 use Rattle.pk_ast.specs.declared.units.Storage.{Storage}
 use Rattle.pk_ast.specs.declared.units.StorageWord.{StorageWord}
 use Rattle.pk_ast.specs.Lists.{one, with_last, ended}
-use Rattle.pk_ast.specs.Trees.{OneOrMore, ExpressionTree, name, call, index, element, constant, character, parenthesized, postfix, prefix, unary, cast, binary, conditional, assignment, comma, ExpressionTrees, no_expressions, expression_then, InitializerItemTree, item_value, item_row, InitializerTree, single, braced, DimensionsTree, DeclaratorTree, EnumeratorTree, EnumerationTree, DeclarationTree, declaration, expression, StatementTree, block, empty, expression_statement, label, case, default, if_then, if_else, switch, while, do_while, for_loop, goto, continue, break, return, ItemTrees, no_items, declaration_then, statement_then, ParameterTree, ExternalTree, function, objects, type_names}
+use Rattle.pk_ast.specs.Trees.{OneOrMore, ExpressionTree, name, call, index, element, constant, character, parenthesized, postfix, prefix, unary, cast, binary, conditional, assignment, comma, ExpressionTrees, no_expressions, expression_then, InitializerItemTree, item_value, item_row, InitializerTree, single, braced, DimensionsTree, DeclaratorTree, EnumeratorTree, EnumerationTree, DeclarationTree, declaration, expression, StatementTree, block, empty, expression_statement, label, case, default, if_then, if_else, switch, while, do_while, for_loop, goto, continue, break, return, ItemTrees, no_items, declaration_then, statement_then, BracketsTree, ParameterTree, ExternalTree, function, objects, type_names}
 use Rattle.pk_grammar.specs.declared.states.Testing.{Testing}
 use Rattle.pk_grammar.specs.declared.states.Testing.TheVariants as testing
 use Rattle.pk_grammar.specs.declared.signs.Fixed.{Fixed}
@@ -25,7 +25,7 @@ use Rattle.pk_grammar.specs.declared.signs.StatementStart.TheVariants as first
 use Rattle.pk_grammar.specs.Languages.{identifier_of}
 use Rattle.pk_grammar.specs.Grammar.{all_of, any_expression, assignment_expression, conditional_expression, strength, weakest_operator, cast_expression, unary_expression, operators_in, postfixes_in, commas_in}
 use Rattle.pk_grammar.specs.Machine.Signs.{is_fixed, operand_start, operator_of, specifier_word, follows, following_word, shape_of, wants_tag, takes_braces, storage_word, statement_start, is_void_word}
-use Rattle.pk_grammar.specs.Machine.States.{Head, OpenBlock, function_block, inner_block, Outer, in_block, in_label, in_case, in_default, in_if, in_else, in_switch, in_while, in_do, in_for, Site, in_a_block, in_a_for, outside, Declaring, Declared, Naming, Initializing, Initialized, EnumerationSite, in_declaration, in_typedef, Enumerating, Enumerated, Purpose, as_statement, as_label, as_test, as_last_test, as_first, as_second, as_third, as_result, as_length, as_columns, as_value, as_item, as_row_item, as_enumerator, Context, as_whole, in_parentheses, in_index, in_column, in_call, in_prefix, in_unary, in_cast, in_binary, in_choice, in_alternative, in_assignment, in_comma, State, top, after_storage, after_typedef, type_specifiers, after_type_name, type_name_comma, at_enumerator, after_enumerator_name, after_braces, after_specifiers, after_name, after_length, after_columns, after_assign, at_initializer_item, at_row_item, after_item, after_initializer, after_comma, parameters_open, parameter_specifiers, parameter_name, parameter_comma, parameters_closed, block_item, after_static, at_statement, after_statement, test_open, do_open, for_open, for_first, for_second, for_third, default_colon, goto_name, returning, statement_end, operand, named, indexed, arguments, opened, cast_specifiers, complete}
+use Rattle.pk_grammar.specs.Machine.States.{Head, OpenBlock, function_block, inner_block, Outer, in_block, in_label, in_case, in_default, in_if, in_else, in_switch, in_while, in_do, in_for, Site, in_a_block, in_a_for, outside, Declaring, Declared, Naming, Initializing, Initialized, EnumerationSite, in_declaration, in_typedef, Enumerating, Enumerated, Receiving, Purpose, as_statement, as_label, as_test, as_last_test, as_first, as_second, as_third, as_result, as_length, as_columns, as_value, as_item, as_row_item, as_enumerator, as_parameter_length, as_parameter_columns, Context, as_whole, in_parentheses, in_index, in_column, in_call, in_prefix, in_unary, in_cast, in_binary, in_choice, in_alternative, in_assignment, in_comma, State, top, after_storage, after_typedef, type_specifiers, after_type_name, type_name_comma, at_enumerator, after_enumerator_name, after_braces, after_specifiers, after_name, after_length, after_columns, after_assign, at_initializer_item, at_row_item, after_item, after_initializer, after_comma, parameters_open, parameter_specifiers, parameter_name, parameter_bracket, parameter_length, parameter_end, parameter_comma, parameters_closed, block_item, after_static, at_statement, after_statement, test_open, do_open, for_open, for_first, for_second, for_third, default_colon, goto_name, returning, statement_end, operand, named, indexed, arguments, opened, cast_specifiers, complete}
 
 -- what becomes of a state at a token: it is taken, nested so deep; or refused; or it is the end of a text
 pub data Verdict : Type 0 where
@@ -122,6 +122,8 @@ purpose_level (as_value d) = assignment_expression
 purpose_level (as_item d) = assignment_expression
 purpose_level (as_row_item d at es) = assignment_expression
 purpose_level (as_enumerator d id) = conditional_expression
+purpose_level (as_parameter_length d) = conditional_expression
+purpose_level (as_parameter_columns d length) = conditional_expression
 
 abbrev pub operand_level : Context → ℕ
 operand_level (as_whole p) = purpose_level p
@@ -302,6 +304,17 @@ abbrev pub after_enumerator : Enumerated → Token → Verdict
 after_enumerator d t =
     if is_fixed fixed.Comma t.kind then next_enumerator d else wanted fixed.CloseBrace t (close_braces d)
 
+-- Parameters
+
+abbrev pub with_brackets : Receiving → Option BracketsTree → ParameterTree
+with_brackets d b = record { specifiers = d.specifiers; name = d.name; brackets = b }
+
+-- behind the brackets
+abbrev pub close_brackets : Receiving → Option ExpressionTree → ExpressionTree → Verdict
+close_brackets d length columns =
+    taken 1
+    (parameter_end d.head d.before (with_brackets d (Some (record { length = length; columns = Some columns }))))
+
 abbrev pub tested : Testing → ℕ → Pos → ExpressionTree → Outer → Outer
 tested testing.If n at e o = in_if n at e o
 tested testing.Switch n at e o = in_switch n at e o
@@ -336,6 +349,8 @@ end_purpose (as_item d) e t = wanted fixed.CloseBrace t (close_initializer (with
 end_purpose (as_row_item d at es) e t =
     wanted fixed.CloseBrace t (close_row d at (first_item es e) (more_items es e))
 end_purpose (as_enumerator d id) e t = wanted fixed.CloseBrace t (close_braces (with_enumerator d id (Some e)))
+end_purpose (as_parameter_length d) e t = wanted fixed.CloseBracket t (taken 1 (parameter_length d (Some e)))
+end_purpose (as_parameter_columns d length) e t = wanted fixed.CloseBracket t (close_brackets d length e)
 
 -- an expression ends at this token, which is no operator
 abbrev pub end_expression : ExpressionTree → Context → Token → Verdict
@@ -376,6 +391,8 @@ comma_purpose (as_value d) n e t = next_declarator (with_initializer d (Some (si
 comma_purpose (as_item d) n e t = next_item (with_item d (item_value e))
 comma_purpose (as_row_item d at es) n e t = taken (initializing_nesting d) (at_row_item d at (one_more es e))
 comma_purpose (as_enumerator d id) n e t = next_enumerator (with_enumerator d id (Some e))
+comma_purpose (as_parameter_length d) n e t = refused
+comma_purpose (as_parameter_columns d length) n e t = refused
 
 abbrev pub comma_after : ℕ → ExpressionTree → Context → Token → Verdict
 comma_after n e (as_whole p) t = comma_purpose p n e t
@@ -704,24 +721,47 @@ is_void_alone w (s ∷ more) = false
 abbrev pub is_void : OneOrMore Specifier → Bool
 is_void s = is_void_alone s.first.word s.more
 
+abbrev pub words_alone : OneOrMore Specifier → ParameterTree
+words_alone specs = record { specifiers = specs; name = None; brackets = None }
+
 abbrev pub last_parameter : List ParameterTree → OneOrMore Specifier → List ParameterTree
-last_parameter [] specs = if is_void specs then [] else record { specifiers = specs; name = None } ∷ []
-last_parameter (p ∷ ps) specs = (p ∷ ps) ++ record { specifiers = specs; name = None } ∷ []
+last_parameter [] specs = if is_void specs then [] else words_alone specs ∷ []
+last_parameter (p ∷ ps) specs = (p ∷ ps) ++ words_alone specs ∷ []
+
+abbrev pub receiving : Head → List ParameterTree → OneOrMore Specifier → Option Identifier → Receiving
+receiving h ps specs n = record { head = h; before = ps; specifiers = specs; name = n }
 
 abbrev pub more_parameter : Head → List ParameterTree → OneOrMore Specifier → Token → Option SpecifierWord → Verdict
 more_parameter h ps specs t (Some w) = taken 1 (parameter_specifiers h ps (with_last specs (specifier_at t w)))
 more_parameter h ps specs t None =
     if end_in_enum specs then refused else
     if is_fixed fixed.Name t.kind
-    then taken 1 (parameter_name h ps (record { specifiers = specs; name = Some (identifier_of t) })) else
-    if is_fixed fixed.Comma t.kind
-    then taken 1 (parameter_comma h (ps ++ record { specifiers = specs; name = None } ∷ [])) else
+    then taken 1 (parameter_name (receiving h ps specs (Some (identifier_of t)))) else
+    if is_fixed fixed.OpenBracket t.kind then taken 2 (parameter_bracket (receiving h ps specs None)) else
+    if is_fixed fixed.Comma t.kind then taken 1 (parameter_comma h (ps ++ words_alone specs ∷ [])) else
     wanted fixed.CloseParenthesis t (taken 0 (parameters_closed h (last_parameter ps specs)))
 
-abbrev pub at_parameter_name : Head → List ParameterTree → ParameterTree → Token → Verdict
-at_parameter_name h ps p t =
+-- a parameter has ended: another one, or the parenthesis
+abbrev pub at_parameter_end : Head → List ParameterTree → ParameterTree → Token → Verdict
+at_parameter_end h ps p t =
     if is_fixed fixed.Comma t.kind then taken 1 (parameter_comma h (ps ++ p ∷ [])) else
     wanted fixed.CloseParenthesis t (taken 0 (parameters_closed h (ps ++ p ∷ [])))
+
+abbrev pub at_parameter_name : Receiving → Token → Verdict
+at_parameter_name d t =
+    if is_fixed fixed.OpenBracket t.kind then taken 2 (parameter_bracket d)
+    else at_parameter_end d.head d.before (with_brackets d None) t
+
+-- a parameter's length may be left out
+abbrev pub at_parameter_bracket : Receiving → Token → Verdict
+at_parameter_bracket d t =
+    if is_fixed fixed.CloseBracket t.kind then taken 1 (parameter_length d None)
+    else at_operand 2 (as_whole (as_parameter_length d)) t
+
+abbrev pub at_parameter_length : Receiving → Option ExpressionTree → Token → Verdict
+at_parameter_length d length t =
+    if is_fixed fixed.OpenBracket t.kind then taken 2 (operand 2 (as_whole (as_parameter_columns d length)))
+    else at_parameter_end d.head d.before (with_brackets d (Some (record { length = length; columns = None }))) t
 
 abbrev pub at_parameters_closed : Head → List ParameterTree → Token → Verdict
 at_parameters_closed h ps t =
@@ -763,7 +803,10 @@ step (parameters_open h) t =
     if is_fixed fixed.CloseParenthesis t.kind then taken 0 (parameters_closed h [])
     else begin_parameter h [] t (specifier_word t)
 step (parameter_specifiers h ps specs) t = more_parameter h ps specs t (next_word specs t)
-step (parameter_name h ps p) t = at_parameter_name h ps p t
+step (parameter_name d) t = at_parameter_name d t
+step (parameter_bracket d) t = at_parameter_bracket d t
+step (parameter_length d length) t = at_parameter_length d length t
+step (parameter_end h ps p) t = at_parameter_end h ps p t
 step (parameter_comma h ps) t = begin_parameter h ps t (specifier_word t)
 step (parameters_closed h ps) t = at_parameters_closed h ps t
 step (block_item b) t = at_items b t

@@ -31,13 +31,13 @@ use Rattle.pk_type_statement.specs.Rules as statements
 use Rattle.pk_type.specs.Functions.{unnamed, after_parameter_name, after_parameter, after_parameters, before_body, after_body, body_of, body_at}
 use Rattle.pk_type.specs.Signatures.{types_of}
 use Rattle.pk_type.specs.Rules as units
-use Rattle.pk_type.specs.Rules.{each_at, about_jumps, is_integer}
+use Rattle.pk_type.specs.Rules.{each_at, about_jumps, parameter_failures, is_integer}
 use Rattle.pk_welltyped.specs.Listed.{numbered}
 use Rattle.pk_welltyped.specs.WellTyped.{AreParameters, AreItems, IsBodyIf, Marks}
 use Rattle.pk_type_laws.specs.Accepted.Constants.{ItemsHave}
 use Rattle.pk_type_laws.specs.Accepted.Names.{NamesAre}
 use Rattle.pk_type_laws.proofs.Accepted.Walks.{W, around, none_found, statics_same, Later, later_same, later, later_failing}
-use Rattle.pk_type_expression.proofs.TreeLemmas.{none_after, holds_not, TypesAre, types_are, known_type}
+use Rattle.pk_type_expression.proofs.TreeLemmas.{none_before, none_after, holds_not, TypesAre, types_are, known_type}
 use Rattle.pk_type_laws.proofs.Accepted.Declarations.{has_types, names_later, found_last, StaticsStand, Begins, begins_before, later_object, not_void, object_declared}
 use Rattle.pk_type_laws.proofs.Accepted.Statements.{Ends, items_part, later_items, ItemsPart}
 use Rattle.pk_type_laws.proofs.Accepted.Jumps.{labels_below, no_case, no_default}
@@ -49,8 +49,8 @@ later_local l w = record { found = λ h. h; more = l ∷ []; locals = refl; stat
 
 later_parameter : (p : ParameterTree) (w : W) → Later w (after_parameter units.noting p w)
 later_parameter p w =
-    let v = failing noted (word_failures (here w) p.specifiers) w in
-    later w v _ (later_failing (word_failures (here w) p.specifiers) w) (named p.name v)
+    let v = failing noted (parameter_failures (here w) p) w in
+    later w v _ (later_failing (parameter_failures (here w) p) w) (named p.name v)
   where
     named : (x : Option Identifier) (v : W) → Later v (after_parameter_name units.noting p x v)
     named None v =
@@ -111,7 +111,7 @@ types_opened c s k y t is = k y t (sym (found_last s.outer s.inner (key_of s.tex
 types_behind : (c : Names) (p : ParameterTree) (w : W) → TypesFrom c (here w) → TypesFrom c (here (after_parameter units.noting p w))
 types_behind c p w k = named p.name
   where
-    named : (x : Option Identifier) → TypesFrom c (here (after_parameter_name units.noting p x (failing noted (word_failures (here w) p.specifiers) w)))
+    named : (x : Option Identifier) → TypesFrom c (here (after_parameter_name units.noting p x (failing noted (parameter_failures (here w) p) w)))
     named None = k
     named (Some x) = types_declaring c w.scoping x _ refl k
 
@@ -119,13 +119,13 @@ types_behind c p w k = named p.name
 parameter_words : (p : ParameterTree) (w : W) → (after_parameter units.noting p w).found ≡ None → word_failures (here w) p.specifiers ≡ []
 parameter_words p w h = named p.name h
   where
-    named : (x : Option Identifier) → (after_parameter_name units.noting p x (failing noted (word_failures (here w) p.specifiers) w)).found ≡ None → word_failures (here w) p.specifiers ≡ []
+    named : (x : Option Identifier) → (after_parameter_name units.noting p x (failing noted (parameter_failures (here w) p) w)).found ≡ None → word_failures (here w) p.specifiers ≡ []
     named None h =
-        let v = failing noted (word_failures (here w) p.specifiers) w in
-        (none_found w.found (word_failures (here w) p.specifiers) (none_found v.found (fails_if (is_void (type_named (here w) p.specifiers)) rule.Void p.specifiers.first.at) h).0).1
+        let v = failing noted (parameter_failures (here w) p) w in
+        none_before (word_failures (here w) p.specifiers) _ (none_found w.found (parameter_failures (here w) p) (none_found v.found (fails_if (is_void (type_named (here w) p.specifiers)) rule.Void p.specifiers.first.at) h).0).1
     named (Some x) h =
-        let v = failing noted (word_failures (here w) p.specifiers) w in
-        (none_found w.found (word_failures (here w) p.specifiers) ((later_object (words_of (here w) p.specifiers) false None x v).found h)).1
+        let v = failing noted (parameter_failures (here w) p) w in
+        none_before (word_failures (here w) p.specifiers) _ (none_found w.found (parameter_failures (here w) p) ((later_object (words_of (here w) p.specifiers) false None x v).found h)).1
 
 parameter_integer : (p : ParameterTree) (w : W) → TypesAre (here w) → (after_parameter units.noting p w).found ≡ None → is_integer (type_named (here w) p.specifiers) ≡ true
 parameter_integer p w k h = named p.name h
@@ -133,13 +133,13 @@ parameter_integer p w k h = named p.name h
     known : is_unknown (type_named (here w) p.specifiers) ≡ false
     known = known_type (here w) k p.specifiers (parameter_words p w h)
 
-    named : (x : Option Identifier) → (after_parameter_name units.noting p x (failing noted (word_failures (here w) p.specifiers) w)).found ≡ None → is_integer (type_named (here w) p.specifiers) ≡ true
+    named : (x : Option Identifier) → (after_parameter_name units.noting p x (failing noted (parameter_failures (here w) p) w)).found ≡ None → is_integer (type_named (here w) p.specifiers) ≡ true
     named None h =
         let t = type_named (here w) p.specifiers in
-        let v = failing noted (word_failures (here w) p.specifiers) w in
+        let v = failing noted (parameter_failures (here w) p) w in
         integer t (holds_not _ _ _ (none_found v.found (fails_if (is_void t) rule.Void p.specifiers.first.at) h).1) known
     named (Some x) h =
-        let v = failing noted (word_failures (here w) p.specifiers) w in
+        let v = failing noted (parameter_failures (here w) p) w in
         integer (type_named (here w) p.specifiers) (not_void (words_of (here w) p.specifiers) false None x v h) known
 
 pub integers_of : (c : Names) (ps : List ParameterTree) (w : W) → TypesAre c → TypesFrom c (here w) → (after_parameters units.noting ps w).found ≡ None → Integers (types_of c ps)
@@ -162,15 +162,15 @@ parameter : (u : UnitTree) (ls : List LocalTree) (p : ParameterTree) (w : W) →
     → One u ls w (after_parameter units.noting p w) (type_named (here w) p.specifiers)
 parameter u ls p w n b h = named p.name b h
   where
-    named : (x : Option Identifier) → Begins u ls (after_parameter_name units.noting p x (failing noted (word_failures (here w) p.specifiers) w)) → (after_parameter_name units.noting p x (failing noted (word_failures (here w) p.specifiers) w)).found ≡ None
-        → One u ls w (after_parameter_name units.noting p x (failing noted (word_failures (here w) p.specifiers) w)) (type_named (here w) p.specifiers)
+    named : (x : Option Identifier) → Begins u ls (after_parameter_name units.noting p x (failing noted (parameter_failures (here w) p) w)) → (after_parameter_name units.noting p x (failing noted (parameter_failures (here w) p) w)).found ≡ None
+        → One u ls w (after_parameter_name units.noting p x (failing noted (parameter_failures (here w) p) w)) (type_named (here w) p.specifiers)
     named None b h =
         let t = type_named (here w) p.specifiers in
-        let v = failing noted (word_failures (here w) p.specifiers) w in
+        let v = failing noted (parameter_failures (here w) p) w in
         let fs = fails_if (is_void t) rule.Void p.specifiers.first.at in
         let f = none_found v.found fs h in
         let x = unnamed units.noting p v in
-        let l = later w (failing noted fs v) x (later w v _ (later_failing (word_failures (here w) p.specifiers) w) (later_failing fs v)) (later_local (record { name = None; int_type = type_or_int t; length = None }) (failing noted fs v)) in
+        let l = later w (failing noted fs v) x (later w v _ (later_failing (parameter_failures (here w) p) w) (later_failing fs v)) (later_local (record { name = None; int_type = type_or_int t; length = None }) (failing noted fs v)) in
         record {
           names = names_later u ls w x (here w) l n;
           calls = refl;
@@ -181,9 +181,9 @@ parameter u ls p w n b h = named p.name b h
         }
     named (Some x) b h =
         let t = type_named (here w) p.specifiers in
-        let v = failing noted (word_failures (here w) p.specifiers) w in
+        let v = failing noted (parameter_failures (here w) p) w in
         let f = (later_object (words_of (here w) p.specifiers) false None x v).found h in
-        let unknown : is_unknown t ≡ false = known_type (here w) (types_are (here w) (λ y. has_types (around u ls w) (here w y) (n y))) p.specifiers (none_found w.found (word_failures (here w) p.specifiers) f).1 in
+        let unknown : is_unknown t ≡ false = known_type (here w) (types_are (here w) (λ y. has_types (around u ls w) (here w y) (n y))) p.specifiers (none_before (word_failures (here w) p.specifiers) _ (none_found w.found (parameter_failures (here w) p) f).1) in
         let o = object_declared u ls (words_of (here w) p.specifiers) false None x v n unknown b h in
         record {
           names = o.names;

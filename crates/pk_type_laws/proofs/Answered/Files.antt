@@ -36,7 +36,7 @@ use Rattle.pk_type.specs.Signatures.{signature_of}
 use Rattle.pk_type.specs.TypeNames.{named_type, after_type_name, after_type_names, after_typedef}
 use Rattle.pk_type.specs.Units.{no_name, defined_in, after_external, objects_in, after_externals, nothing_filed, checked}
 use Rattle.pk_type.specs.Rules as units
-use Rattle.pk_type.specs.Rules.{extern_object, is_redeclared, is_misused, about_jumps}
+use Rattle.pk_type.specs.Rules.{extern_object, is_redeclared, is_misused, about_jumps, parameter_failures}
 use Rattle.pk_type_laws.specs.Answered.Failures.{appended, listing}
 use Rattle.pk_type_laws.proofs.Answered.Walks.{L, W, first, failing_first, dimensions_first, length_at_first, object_first, words_first}
 use Rattle.pk_type_laws.proofs.Answered.Statics.{numbers_first, numbers_same}
@@ -116,8 +116,8 @@ parameters_first : (ps : List ParameterTree) (w : L) → after_parameters units.
 unfolding after_parameters
 parameters_first [] w = refl
 parameters_first (p ∷ ps) w =
-    ap (λ (v : W). after_parameters units.noting ps (after_parameter_name units.noting p p.name v)) (failing_first (word_failures (here w) p.specifiers) w)
-    ∙ (ap (after_parameters units.noting ps) (name_first p p.name (failing appended (word_failures (here w) p.specifiers) w)) ∙ parameters_first ps (after_parameter (units.adding appended) p w))
+    ap (λ (v : W). after_parameters units.noting ps (after_parameter_name units.noting p p.name v)) (failing_first (parameter_failures (here w) p) w)
+    ∙ (ap (after_parameters units.noting ps) (name_first p p.name (failing appended (parameter_failures (here w) p) w)) ∙ parameters_first ps (after_parameter (units.adding appended) p w))
 
 function_head_first : (defined : List ℕ → Bool) (g : FunctionTree) (f : F) → functions.after_head units.noting defined g (filed_first f) ≡ filed_first (functions.after_head (units.adding appended) defined g f)
 function_head_first defined g f =

@@ -11,7 +11,6 @@ use Rattle.pk_type_scope.specs.declared.declarations.NamedType.{NamedType}
 use Rattle.pk_type_scope.specs.declared.declarations.Typing.{Typing}
 use Rattle.pk_type_scope.specs.Declarations.{HasTypes, is_unknown}
 use Rattle.pk_type_scope.specs.Failures.{noted}
-use Rattle.pk_type_scope.specs.Specifiers.{word_failures}
 use Rattle.pk_type_expression.specs.Rules.{count, used_failures}
 use Rattle.pk_type_expression.specs.Types.{type_of}
 use Rattle.pk_type_declaration.specs.declared.words.Words.{Words}
@@ -31,6 +30,7 @@ use Rattle.pk_type_statement.specs.Rules.{repeated_cases}
 use Rattle.pk_type.specs.Functions.{after_parameter_name, after_parameter, after_parameters}
 use Rattle.pk_type.specs.TypeNames.{named_type, after_type_name, after_type_names, after_typedef}
 use Rattle.pk_type.specs.Rules as units
+use Rattle.pk_type.specs.Rules.{parameter_failures}
 use Rattle.pk_welltyped.specs.WellTyped.{IsStart}
 use Rattle.pk_type_expression.proofs.TreeLemmas.{none_before, none_after}
 use Rattle.pk_type_laws.proofs.Accepted.Walks.{W, none_found}
@@ -102,7 +102,7 @@ name_statics p (Some x) w = refl
 pub parameters_statics : (ps : List ParameterTree) (w : W) → (after_parameters units.noting ps w).statics ≡ w.statics
 unfolding after_parameters
 parameters_statics [] w = refl
-parameters_statics (p ∷ ps) w = parameters_statics ps (after_parameter units.noting p w) ∙ name_statics p p.name (failing noted (word_failures (here w) p.specifiers) w)
+parameters_statics (p ∷ ps) w = parameters_statics ps (after_parameter units.noting p w) ∙ name_statics p p.name (failing noted (parameter_failures (here w) p) w)
 
 names_statics : (t : NamedType) (xs : List Identifier) (w : W) → (after_type_names declarations.noting t xs w).statics ≡ w.statics
 unfolding after_type_names

@@ -43,7 +43,7 @@ use Rattle.pk_type.specs.Signatures.{SignatureTree, signature_of}
 use Rattle.pk_type.specs.TypeNames.{named_type, after_type_name, after_type_names, after_typedef}
 use Rattle.pk_type.specs.Units.{no_name, defined_in, objects_in, checked, after_external, after_externals, nothing_filed}
 use Rattle.pk_type.specs.Rules as units
-use Rattle.pk_type.specs.Rules.{extern_object, is_redeclared, is_misused, each_at, about_jumps}
+use Rattle.pk_type.specs.Rules.{extern_object, is_redeclared, is_misused, each_at, about_jumps, parameter_failures}
 use Rattle.pk_type_laws.proofs.Accepted.Declarations.{later_dimensions}
 use Rattle.pk_type_laws.proofs.Accepted.Files.{F}
 use Rattle.pk_type_laws.proofs.Accepted.Functions.{later_parameters, later_body}
@@ -163,10 +163,10 @@ parameters_known : (ps : List ParameterTree) (w : W) → Known w.scoping → (af
 unfolding after_parameters
 parameters_known [] w k h = k
 parameters_known (p ∷ ps) w k h =
-    let x = failing noted (word_failures (here w) p.specifiers) w in
+    let x = failing noted (parameter_failures (here w) p) w in
     let v = after_parameter units.noting p w in
     let hv : v.found ≡ None = (later_parameters ps v).found h in
-    let u = known_type (here w) (types_are (here w) k) p.specifiers (none_found w.found (word_failures (here w) p.specifiers) (name_before p p.name x hv)).1 in
+    let u = known_type (here w) (types_are (here w) k) p.specifiers (none_before (word_failures (here w) p.specifiers) _ (none_found w.found (parameter_failures (here w) p) (name_before p p.name x hv)).1) in
     parameters_known ps v (name_known p p.name x u k hv) h
 
 -- ---- bodies

@@ -9,8 +9,8 @@ use Rattle.pk_grammar.specs.Machine.Running.{syntax, run}
 use Rattle.pk_parse_expression.proofs.RunLemmas.{passed}
 use Rattle.pk_parse_expression.proofs.WordLemmas as word_lemmas
 use Rattle.pk_parse.proofs.DeclarationLemmas.{shorter}
-use Rattle.pk_parse.proofs.RunExternals.{run_no_parameters, run_parameters}
-use Rattle.pk_parse.proofs.ExternalLemmas.{no_items, some_items, ReadsParameters, stops_parameters, fails_parameter, stops_parameter, reads_parameter, reads_last, reads_void}
+use Rattle.pk_parse.proofs.RunParameters.{run_no_parameters, run_parameters}
+use Rattle.pk_parse.proofs.ParameterLemmas.{no_items, some_items, ReadsParameters, stops_parameters, fails_parameter, stops_parameter, reads_parameter, reads_last, reads_void}
 use Rattle.pk_parse.proofs.externals.parameters.Goals as goal
 use Rattle.pk_parse.proofs.externals.parameters.Goals.{then-not-is_empty+in_ok-push, then-not-is_empty-via-then-not-is_empty, then-not-is_empty-via-else-not-is_empty+then-not-is_void_alone, else-not-is_empty+else-not-is_void_alone}
 

@@ -1,6 +1,6 @@
 use Rattle.std.proofs.Common.{◌≤◌, length}
 use Rattle.pk_ast.specs.Views.{parameter_trees}
-use Rattle.pk_parse.proofs.ExternalLemmas.{ReadsParameters}
+use Rattle.pk_parse.proofs.ParameterLemmas.{ReadsParameters}
 use Rattle.pk_parse.proofs.externals.parameters.Given as goal
 
 abbrev pub invariant-loop-word : goal.invariant-loop-word
