@@ -106,6 +106,7 @@ passes_is u ps quantity.Nesting n h = absurd h
 passes_is u ps quantity.Paths n h = inl (refl, h.0, h.1)
 passes_is u ps quantity.Variables n h = inr (refl, h.0, h.1, h.2)
 passes_is u ps quantity.Points n h = absurd h
+passes_is u ps quantity.Packs n h = absurd h
 
 limit_determined : (u : UnitTree) (ps : List CallPath) (what that : Quantity) (n m : ℕ) → Passes u ps what n → Passes u ps that m → (what ≡ that) × (n ≡ m)
 limit_determined u ps what that n m h k =

@@ -35,12 +35,10 @@ variable_limit = 65536
 
 -- these call paths pass the limit of a number; that of paths is looked at first
 abbrev pub Passes : UnitTree → List CallPath → Quantity → ℕ → Type 0
-Passes u paths quantity.Text n = ⊥
-Passes u paths quantity.Nesting n = ⊥
 Passes u paths quantity.Paths n = (n ≡ path_limit) × (path_limit < length paths)
 Passes u paths quantity.Variables n =
     (n ≡ variable_limit) × (length paths ≤ path_limit) × (variable_limit < variables_of u paths)
-Passes u paths quantity.Points n = ⊥
+Passes u paths what n = ⊥
 
 -- The answer: all call paths where they are within the limits, or why not. Want of memory is no answer about the unit.
 abbrev pub IsAnswer : UnitTree → List ℕ → Result (List CallPath) CallError → Type 0

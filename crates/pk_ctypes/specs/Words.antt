@@ -6,7 +6,7 @@ use Rattle.pk_ctypes.specs.declared.faults.Fault.TheVariants.{Index, DivZero, Ov
 use Rattle.pk_ctypes.specs.declared.words.Construct.{Construct}
 use Rattle.pk_ctypes.specs.declared.words.Construct.TheVariants as construct
 use Rattle.pk_ctypes.specs.declared.words.Quantity.{Quantity}
-use Rattle.pk_ctypes.specs.declared.words.Quantity.TheVariants.{Text, Nesting, Paths, Variables, Points}
+use Rattle.pk_ctypes.specs.declared.words.Quantity.TheVariants.{Text, Nesting, Paths, Variables, Points, Packs}
 use Rattle.pk_ctypes.specs.declared.words.Rule.{Rule}
 use Rattle.pk_ctypes.specs.declared.words.Rule.TheVariants as rule
 
@@ -76,6 +76,7 @@ quantity_text Nesting = codes "nesting"
 quantity_text Paths = codes "paths"
 quantity_text Variables = codes "variables"
 quantity_text Points = codes "points"
+quantity_text Packs = codes "packs"
 
 -- names with a blank between each two
 abbrev pub names_text : List (List ℕ) → List ℕ

@@ -187,6 +187,8 @@ pub enum Quantity {
     Variables,
     /// Points of the graph.
     Points,
+    /// Octagon packs.
+    Packs,
 }
 
 impl Quantity {
@@ -200,6 +202,7 @@ impl Quantity {
             Quantity::Paths => "paths",
             Quantity::Variables => "variables",
             Quantity::Points => "points",
+            Quantity::Packs => "packs",
         }
     }
 }

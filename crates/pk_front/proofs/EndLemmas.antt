@@ -26,6 +26,7 @@ by_answer text entry u has (Err (call_error.Limit quantity.Nesting n)) some is =
 by_answer text entry u has (Err (call_error.Limit quantity.Paths n)) some is = is_left {s = Limit quantity.Paths n} (λ e. cc) (record { unit = u; typed = has; refused = is })
 by_answer text entry u has (Err (call_error.Limit quantity.Variables n)) some is = is_left {s = Limit quantity.Variables n} (λ e. cc) (record { unit = u; typed = has; refused = is })
 by_answer text entry u has (Err (call_error.Limit quantity.Points n)) some is = absurd is.2
+by_answer text entry u has (Err (call_error.Limit quantity.Packs n)) some is = absurd is.2
 by_answer text entry u has (Err call_error.Memory) some is = absurd (some refl)
 
 by_failure : (text entry : List ℕ) (all : List ExternalTree) → HasTrees text all → (found : Option Failure) → failure_in text all ≡ found → HasEnd text entry

@@ -71,6 +71,7 @@ comes text entry (Limit quantity.Nesting n) some left = record { reason = gramma
 comes text entry (Limit quantity.Paths n) some left = record { reason = called (call_error.Limit quantity.Paths n); is = refl; holds = (λ e. cc, left) }
 comes text entry (Limit quantity.Variables n) some left = record { reason = called (call_error.Limit quantity.Variables n); is = refl; holds = (λ e. cc, left) }
 comes text entry (Limit quantity.Points n) some left = absurd left
+comes text entry (Limit quantity.Packs n) some left = absurd left
 comes text entry Memory some left = absurd (some refl)
 
 -- ---- one answer of each stage

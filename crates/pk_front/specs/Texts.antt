@@ -90,11 +90,10 @@ IsRefusedFor text entry (UndefinedCall name at) = FailsAsUnit text entry (callin
 
 -- what is nested too deep, and too many call paths or variables
 abbrev pub PassesLimit : (text entry : List ℕ) → Quantity → ℕ → Type 0
-PassesLimit text entry quantity.Text n = ⊥
 PassesLimit text entry quantity.Nesting n = (n ≡ 128) × ((at : Pos) × FailsAsTokens text (parsing.Nesting at))
 PassesLimit text entry quantity.Paths n = FailsAsUnit text entry (calling.Limit quantity.Paths n)
 PassesLimit text entry quantity.Variables n = FailsAsUnit text entry (calling.Limit quantity.Variables n)
-PassesLimit text entry quantity.Points n = ⊥
+PassesLimit text entry what n = ⊥
 
 -- a text is left before its call paths are known only so, or for want of memory
 abbrev pub IsLeft : (text entry : List ℕ) → TextError → Type 0
