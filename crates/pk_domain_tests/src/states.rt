@@ -1,20 +1,30 @@
 // Small states: what an octagon decides that intervals can't, and that no run comes to a point.
 
-ghost use Rattle.std.specs.Prelude.{◌≡◌, ◌<◌, IfOk, length};
+ghost use Rattle.std.specs.Prelude.{◌≡◌, ◌<◌, ◌∷◌, [], IfOk, length};
 
 use pk_ctypes::IntType;
+use pk_octagons::Pack;
 use pk_state::{Frame, State};
 use std::alloc::{AllocError, Global};
 use std::test::Fail;
 
+// Both of two variables.
+fn both(alloc: Global) -> Result<Vec<Pack>, AllocError>
+    ensures { IfOk result (λ p. p.items ≡ (0 ∷ (1 ∷ [])) ∷ []) }
+{
+    let mut packs = Vec::with_capacity(alloc, 1)?;
+    packs.push(Pack::new(Vec::from_slice(alloc, &[0, 1])?))?;
+    Ok(packs)
+}
+
 // Two variables of type int, and an octagon over both.
 fn pair(alloc: Global) -> Result<Frame, AllocError>
     ensures types { IfOk result (λ f. length f.types ≡ 2) }
-    ensures chosen { IfOk result (λ f. length f.chosen ≡ 2) }
 {
     let types = Vec::from_slice(alloc, &[IntType::Int, IntType::Int])?;
-    let chosen = Vec::from_slice(alloc, &[0, 1])?;
-    Ok(Frame::new(types, chosen, Vec::new(alloc)))
+    let packs = both(alloc)?;
+    let further = Vec::new(alloc);
+    Frame::new(alloc, types, packs, further)
 }
 
 // The bounds of a variable; none where no run comes there.
@@ -26,33 +36,30 @@ fn range(s: &State, x: usize) -> Option<(i128, i128)>
 
 // x from 0 to 10 and y at most 5, over one frame.
 fn small<'f>(alloc: Global, frame: &'f Frame) -> Result<State<'f>, AllocError>
-    requires { length frame.now.chosen ≡ 2 }
     ensures { IfOk result (λ s. s.layout ≡ frame.now) }
 {
     State::top(alloc, frame)?
-        .with_guard(alloc, Some(0), None, 10)?
-        .with_guard(alloc, Some(1), None, 0)?
-        .with_guard(alloc, Some(2), None, 5)?
+        .with_guard(alloc, Some(0), None, 10, &[0])?
+        .with_guard(alloc, Some(1), None, 0, &[0])?
+        .with_guard(alloc, Some(2), None, 5, &[1])?
         .reduce(alloc)
 }
 
 // x from 0 to 3 as well.
 fn less<'f>(alloc: Global, frame: &'f Frame) -> Result<State<'f>, AllocError>
-    requires { length frame.now.chosen ≡ 2 }
     ensures { IfOk result (λ s. s.layout ≡ frame.now) }
 {
     small(alloc, frame)?
-        .with_guard(alloc, Some(0), None, 3)?
+        .with_guard(alloc, Some(0), None, 3, &[0])?
         .reduce(alloc)
 }
 
 // And x < y.
 fn ordered<'f>(alloc: Global, frame: &'f Frame) -> Result<State<'f>, AllocError>
-    requires { length frame.now.chosen ≡ 2 }
     ensures { IfOk result (λ s. s.layout ≡ frame.now) }
 {
     small(alloc, frame)?
-        .with_guard(alloc, Some(0), Some(3), -1)?
+        .with_guard(alloc, Some(0), Some(3), -1, &[0, 1])?
         .reduce(alloc)
 }
 
@@ -63,7 +70,7 @@ fn octagons_decide(rt: HostRuntime) -> Result<(), Fail> {
     assert!(rt; (range(&s, 0), range(&s, 1)) == (Some((0, 4)), Some((1, 5))));
     // y < x
     let s = s
-        .with_guard(rt.alloc(), Some(2), Some(1), -1)?
+        .with_guard(rt.alloc(), Some(2), Some(1), -1, &[0, 1])?
         .reduce(rt.alloc())?;
     assert!(rt; (s.is_bottom(), range(&s, 0)) == (true, None));
     Ok(())

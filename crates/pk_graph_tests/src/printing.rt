@@ -1,6 +1,6 @@
 // What is known of the variables, as a report prints it.
 
-ghost use Rattle.std.specs.Prelude.{◌≡◌, ◌<◌, length};
+ghost use Rattle.std.specs.Prelude.{◌≡◌, ◌<◌, ◌^◌, length};
 
 use pk_ctypes::{IntType, Name};
 use pk_graph::Graph;
@@ -62,7 +62,7 @@ fn print_variable(
     }
 }
 
-// A bound of the octagon, where it is less than what the intervals give.
+// A bound of octagons, where it is less than what the intervals give.
 fn print_bound(
     text: &mut String,
     sign: &str,
@@ -91,21 +91,20 @@ fn name_of(graph: &Graph, x: usize) -> Option<&Name> {
     }
 }
 
-// The octagon's four forms over the variables of places a and b.
+// The four forms of octagons over the variables a and b.
 fn print_pair(
     text: &mut String,
     state: &State,
     x: &Name,
-    a: u32,
+    a: usize,
     known: &Interval,
     y: &Name,
-    b: u32,
+    b: usize,
     other: &Interval,
 ) -> Result<(), AllocError>
-    requires left { a < length state.now.layout.chosen }
-    requires right { b < length state.now.layout.chosen }
+    requires left { a < 2 ^ 63 }
+    requires right { b < 2 ^ 63 }
 {
-    state.is_stated();
     let most = known.hi.wrapping_sub(other.lo);
     print_bound(text, "", x, "-", y, state.bound(2 * b, 2 * a), most)?;
     let most = other.hi.wrapping_sub(known.lo);
@@ -126,32 +125,48 @@ fn interval_of(state: &State, x: usize) -> Interval
     }
 }
 
-// The octagon's bounds on the variables of two places.
-fn print_places(
+// The bounds of octagons on two variables that have names.
+fn print_named(
     text: &mut String,
     graph: &Graph,
-    frame: &Frame,
     state: &State,
-    k: usize,
-    l: usize,
+    a: usize,
+    b: usize,
 ) -> Result<(), AllocError>
-    requires left { k < length frame.now.chosen }
-    requires right { l < length frame.now.chosen }
-    requires layout { state.now.layout ≡ frame.now }
+    requires left { a < length state.now.layout.types }
+    requires right { b < length state.now.layout.types }
+    requires left_few { a < 2 ^ 63 }
+    requires right_few { b < 2 ^ 63 }
 {
-    frame.is_layout();
-    let known = interval_of(state, frame.chosen(k));
-    let other = interval_of(state, frame.chosen(l));
-    match name_of(graph, frame.chosen(k)) {
+    let known = interval_of(state, a);
+    let other = interval_of(state, b);
+    match name_of(graph, a) {
         None => Ok(()),
-        Some(x) => match name_of(graph, frame.chosen(l)) {
+        Some(x) => match name_of(graph, b) {
             None => Ok(()),
-            Some(y) => print_pair(text, state, x, k as u32, &known, y, l as u32, &other),
+            Some(y) => print_pair(text, state, x, a, &known, y, b, &other),
         },
     }
 }
 
-/// The variables that have a name, by number, and the octagon's bounds that say more.
+// The bounds of octagons on two of their variables.
+fn print_both(
+    text: &mut String,
+    graph: &Graph,
+    state: &State,
+    a: usize,
+    b: usize,
+) -> Result<(), AllocError>
+    requires left { a < length state.now.layout.types }
+    requires right { b < length state.now.layout.types }
+{
+    if state.is_chosen(a) && state.is_chosen(b) {
+        return print_named(text, graph, state, a, b);
+    }
+    Ok(())
+}
+
+/// The variables that have a name, by number, and the bounds of octagons that say more.
 pub fn print(
     alloc: Global,
     graph: &Graph,
@@ -168,9 +183,9 @@ pub fn print(
     for x in 0..frame.len() {
         print_variable(&mut text, graph, state, x)?;
     }
-    for l in 0..frame.octagon_len() {
-        for k in 0..l {
-            print_places(&mut text, graph, frame, state, k, l)?;
+    for y in 0..frame.len() {
+        for x in 0..y {
+            print_both(&mut text, graph, state, x, y)?;
         }
     }
     Ok(text)

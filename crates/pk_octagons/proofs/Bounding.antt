@@ -92,11 +92,11 @@ bounded_stop l m k n olds vs x v h c g e p =
 
 -- ---- values that are listed
 
-listed_last : (xs : List ℕ) (y : ℕ) → IsListed (xs ++ y ∷ []) y
+pub listed_last : (xs : List ℕ) (y : ℕ) → IsListed (xs ++ y ∷ []) y
 listed_last [] y = inl refl
 listed_last (x ∷ xs) y = inr (listed_last xs y)
 
-listed_left : (xs ys : List ℕ) (y : ℕ) → IsListed xs y → IsListed (xs ++ ys) y
+pub listed_left : (xs ys : List ℕ) (y : ℕ) → IsListed xs y → IsListed (xs ++ ys) y
 listed_left [] ys y h = absurd h
 listed_left (x ∷ xs) ys y (inl e) = inl e
 listed_left (x ∷ xs) ys y (inr h) = inr (listed_left xs ys y h)

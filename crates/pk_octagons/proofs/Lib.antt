@@ -4,13 +4,14 @@ pub mod Places
 pub mod Lists
 mod Points
 mod Placing
-mod Zips
-mod Overs
+pub mod Zips
+pub mod Overs
 pub mod Sound
 pub mod Resting
 mod Least
 pub mod Bounding
 mod Closed
-mod Stay
-mod One
-mod Numbers
+pub mod Stay
+pub mod One
+pub mod Numbers
+pub mod Chosen

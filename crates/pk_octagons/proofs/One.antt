@@ -1,5 +1,5 @@
 -- One octagon, and octagons that rest.
-use Rattle.std.specs.Prelude.{◌≡◌, ◌↔◌, ℕ, zero, suc, ◌<◌, ℤ, pos, int_lt, Bool, true, false, if◌then◌else◌, List, [], ◌∷◌, length, Option, Some, None, option_map}
+use Rattle.std.specs.Prelude.{◌≡◌, ◌↔◌, ℕ, zero, suc, ◌<◌, ℤ, pos, int_lt, Bool, true, false, ◌&&◌, ◌||◌, if◌then◌else◌, List, [], ◌∷◌, length, Option, Some, None, option_map}
 use Rattle.std.proofs.Common.{◌∙◌, ap, refl, sym, arith}
 use Rattle.pk_value.specs.Known.{Known}
 use Rattle.pk_octmat.specs.Bounds.{lesser}
@@ -8,7 +8,7 @@ use Rattle.pk_octclose.specs.Places.{closing_of}
 use Rattle.pk_octops.specs.Assigns.{assignment_of}
 use Rattle.pk_octops.specs.Guards.{guard_of}
 use Rattle.pk_octops.specs.Tables.{IsBelow}
-use Rattle.pk_octagons.specs.Packs.{side_in}
+use Rattle.pk_octagons.specs.Packs.{is_over, side_in, side_over}
 use Rattle.pk_octagons.specs.Octagons.{octagon_at, AreOctagons, AreBelow}
 use Rattle.pk_octagons.specs.Changes.{then_with, or_else, changed_at, guarded_octagons, bound_in}
 use Rattle.pk_octagons.specs.Reduced.{by_ranges, with_first, closed_octagons, bounded_all, bounded_values, AreResting, BoundNone}
@@ -23,12 +23,36 @@ below m n = (λ h. h 0 (omega arith), λ h p q. one p q h)
     one zero q h = h
     one (suc p) q h = absurd (omega (arith, q))
 
-tested : (chosen : List ℕ) (m : Octagon) (c : ℤ) → guarded_octagons (chosen ∷ []) (m ∷ []) None None c ≡ option_map (λ r. r ∷ []) (guard_of m None None c)
-tested chosen m c = by (int_lt c (pos 0))
+tested : (chosen : List ℕ) (m : Octagon) (c : ℤ) (over : List ℕ) → is_over over chosen ≡ true → guarded_octagons (chosen ∷ []) (m ∷ []) None None c over ≡ option_map (λ r. r ∷ []) (guard_of m None None c)
+tested chosen m c over h = ap (λ t. if int_lt c (pos 0) && (t || false) then None else Some (m ∷ [])) h ∙ by (int_lt c (pos 0))
   where
-    by : (b : Bool) → (if b then None else Some (m ∷ [])) ≡ option_map (λ (r : Octagon). r ∷ []) (if b then None else Some m)
+    by : (b : Bool) → (if b && true then None else Some (m ∷ [])) ≡ option_map (λ (r : Octagon). r ∷ []) (if b then None else Some m)
     by true = refl
     by false = refl
+
+-- the place of a term, where the pack is over each variable, and where it isn't
+over_side : (over chosen : List ℕ) → is_over over chosen ≡ true → (t : ℕ) → side_over over chosen t ≡ side_in chosen t
+over_side over chosen h t = ap (λ b. if b then side_in chosen t else None) h
+
+less_side : (over chosen : List ℕ) → is_over over chosen ≡ false → (t : ℕ) → side_over over chosen t ≡ None
+less_side over chosen h t = ap (λ b. if b then side_in chosen t else None) h
+
+over_term : (over chosen : List ℕ) → is_over over chosen ≡ true → (t : Option ℕ) → then_with t (side_over over chosen) ≡ then_with t (side_in chosen)
+over_term over chosen h None = refl
+over_term over chosen h (Some t) = over_side over chosen h t
+
+less_term : (over chosen : List ℕ) → is_over over chosen ≡ false → (t : Option ℕ) → then_with t (side_over over chosen) ≡ None
+less_term over chosen h None = refl
+less_term over chosen h (Some t) = less_side over chosen h t
+
+unguarded : (chosen : List ℕ) (m : Octagon) (a b : Option ℕ) (c : ℤ) (over : List ℕ) → is_over over chosen ≡ false → guarded_octagons (chosen ∷ []) (m ∷ []) a b c over ≡ Some (m ∷ [])
+unguarded chosen m None b c over h = ap (λ t. if int_lt c (pos 0) && (t || false) then None else Some (m ∷ [])) h ∙ by (int_lt c (pos 0))
+  where
+    by : (b : Bool) → (if b && false then None else Some (m ∷ [])) ≡ Some (m ∷ [])
+    by true = refl
+    by false = refl
+unguarded chosen m (Some a) None c over h = ap (λ o. Some (changed_at o m (λ p. or_else m (guard_of m (Some p) None c)) ∷ [])) (less_side over chosen h a)
+unguarded chosen m (Some a) (Some b) c over h = ap (λ o. Some (changed_at o m (λ p. changed_at (side_over over chosen b) m (λ q. or_else m (guard_of m (Some p) (Some q) c))) ∷ [])) (less_side over chosen h a)
 
 told : (chosen : List ℕ) (m : Octagon) (a b i j : ℕ) → side_in chosen a ≡ Some i → side_in chosen b ≡ Some j → bound_in (chosen ∷ []) (m ∷ []) a b ≡ entry m i j
 told chosen m a b i j e f = ap (λ o. lesser (then_with o (λ u. then_with (side_in chosen b) (entry m u))) None) e ∙ ap (λ o. lesser (then_with o (entry m i)) None) f ∙ none (entry m i j)
@@ -57,13 +81,17 @@ one_is_itself = record {
   widened = λ h n. refl;
   narrowed = λ h n. refl;
   below = below;
-  assigned = λ chosen m x k t c e. ap (λ o. changed_at o m (λ p. assignment_of m p (then_with t (side_in chosen)) c) ∷ []) e;
-  apart = λ chosen m x t c e. ap (λ o. changed_at o m (λ p. assignment_of m p (then_with t (side_in chosen)) c) ∷ []) e;
+  assigned = λ chosen m x k t c over e h.
+      ap (λ o. changed_at o m (λ p. assignment_of m p (then_with t (side_over over chosen)) c) ∷ []) e ∙ ap (λ u. assignment_of m k u c ∷ []) (over_term over chosen h t);
+  forgotten = λ chosen m x k t c over e h.
+      ap (λ o. changed_at o m (λ p. assignment_of m p (then_with t (side_over over chosen)) c) ∷ []) e ∙ ap (λ u. assignment_of m k u c ∷ []) (less_term over chosen h t);
+  apart = λ chosen m x t c over e. ap (λ o. changed_at o m (λ p. assignment_of m p (then_with t (side_over over chosen)) c) ∷ []) e;
   tested = tested;
-  bounded = λ chosen m a i c e. ap (λ o. Some (changed_at o m (λ p. or_else m (guard_of m (Some p) None c)) ∷ [])) e;
-  related = λ chosen m a b i j c e f.
-      ap (λ o. Some (changed_at o m (λ p. changed_at (side_in chosen b) m (λ q. or_else m (guard_of m (Some p) (Some q) c))) ∷ [])) e
-      ∙ ap (λ o. Some (changed_at o m (λ q. or_else m (guard_of m (Some i) (Some q) c)) ∷ [])) f;
+  bounded = λ chosen m a i c over e h. ap (λ o. Some (changed_at o m (λ p. or_else m (guard_of m (Some p) None c)) ∷ [])) (over_side over chosen h a ∙ e);
+  related = λ chosen m a b i j c over e f h.
+      ap (λ o. Some (changed_at o m (λ p. changed_at (side_over over chosen b) m (λ q. or_else m (guard_of m (Some p) (Some q) c))) ∷ [])) (over_side over chosen h a ∙ e)
+      ∙ ap (λ o. Some (changed_at o m (λ q. or_else m (guard_of m (Some i) (Some q) c)) ∷ [])) (over_side over chosen h b ∙ f);
+  unguarded = unguarded;
   told = told;
   closed = closed;
   limited = limited;

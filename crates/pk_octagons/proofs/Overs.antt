@@ -1,13 +1,13 @@
 -- Octagons changed at the places of a variable, and no others.
-use Rattle.std.specs.Prelude.{◌≡◌, ◌≢◌, ℕ, zero, suc, ◌+◌, ◌/◌, ◌<◌, ◌≤◌, ◌^◌, ℤ, List, [], ◌∷◌, ◌++◌, length, map, option_map, Option, Some, None}
+use Rattle.std.specs.Prelude.{◌≡◌, ◌≢◌, ℕ, zero, suc, ◌+◌, ◌*◌, ◌/◌, ◌<◌, ◌≤◌, ◌^◌, Bool, true, false, if◌then◌else◌, ℤ, List, [], ◌∷◌, ◌++◌, length, map, option_map, Option, Some, None, IfSome}
 use Rattle.std.proofs.Common.{◌∙◌, ap, refl, sym, arith, set, drop, get_or}
 use Rattle.std.proofs.Math.ListN.{drop_of_length-le}
 use Rattle.std.proofs.lemmas.List.{length-map, drop_more}
 use Rattle.pk_octmat.specs.Octagon.{Octagon, bar}
 use Rattle.pk_octops.specs.Assigns.{assignment_of}
-use Rattle.pk_octops.specs.Guards.{guard_of}
+use Rattle.pk_octops.specs.Guards.{IsGuard, guard_of}
 use Rattle.pk_octagons.specs.declared.packs.Place.{Place}
-use Rattle.pk_octagons.specs.Packs.{IsPlaceOf, chosen_at, place_in, pack_at, with_place, places_from, places_of, side_of, side_in}
+use Rattle.pk_octagons.specs.Packs.{IsPlaceOf, chosen_at, place_in, pack_at, is_over, with_place, places_from, places_of, side_of, side_in, side_over}
 use Rattle.pk_octagons.specs.Octagons.{octagon_at, widths}
 use Rattle.pk_octagons.specs.Changes.{then_with, or_else, each_changed, changed_at, assigned_in, bounded_in, related_in}
 use Rattle.pk_octagons.proofs.Places.{place_there}
@@ -121,28 +121,50 @@ at_option : (F : ℕ → Octagon) (m : Octagon) (h : ℕ → ℕ) (o : Option �
 at_option F m h None = refl
 at_option F m h (Some k) = refl
 
-abbrev pub assigned_at : List (List ℕ) → Option ℕ → ℤ → Place → Octagon → Octagon
-assigned_at packs t c place m = assignment_of m place.place (then_with t (side_in (pack_at packs place.pack))) c
+abbrev pub assigned_at : List (List ℕ) → Option ℕ → ℤ → List ℕ → Place → Octagon → Octagon
+assigned_at packs t c over place m = assignment_of m place.place (then_with t (side_over over (pack_at packs place.pack))) c
 
-abbrev pub bounded_at : ℕ → ℤ → Place → Octagon → Octagon
-bounded_at a c place m = or_else m (guard_of m (Some (side_of a place.place)) None c)
+abbrev pub bounded_at : List (List ℕ) → ℕ → ℤ → List ℕ → Place → Octagon → Octagon
+bounded_at packs a c over place m = changed_at (side_over over (pack_at packs place.pack) a) m (λ i. or_else m (guard_of m (Some i) None c))
 
-abbrev pub related_at : List (List ℕ) → ℕ → ℕ → ℤ → Place → Octagon → Octagon
-related_at packs a b c place m = changed_at (side_in (pack_at packs place.pack) b) m (λ j. or_else m (guard_of m (Some (side_of a place.place)) (Some j) c))
+abbrev pub related_at : List (List ℕ) → ℕ → ℕ → ℤ → List ℕ → Place → Octagon → Octagon
+related_at packs a b c over place m = changed_at (side_over over (pack_at packs place.pack) b) m (λ j. or_else m (guard_of m (Some (side_of a place.place)) (Some j) c))
 
-pub assigned_is : (packs : List (List ℕ)) (x : ℕ) (t : Option ℕ) (c : ℤ) → IsChangeOf packs x (assigned_at packs t c) (assigned_in x t c)
-assigned_is packs x t c p m o e = ap (λ u. changed_at u m (λ k. assignment_of m k (then_with t (side_in (pack_at packs p))) c)) e
+pub assigned_is : (packs : List (List ℕ)) (x : ℕ) (t : Option ℕ) (c : ℤ) (over : List ℕ) → IsChangeOf packs x (assigned_at packs t c over) (assigned_in x t c over)
+assigned_is packs x t c over p m o e = ap (λ u. changed_at u m (λ k. assignment_of m k (then_with t (side_over over (pack_at packs p))) c)) e
 
-pub bounded_is : (packs : List (List ℕ)) (a : ℕ) (c : ℤ) → IsChangeOf packs (a / 2) (bounded_at a c) (bounded_in a c)
-bounded_is packs a c p m o e = ap (λ u. changed_at (option_map (side_of a) u) m (λ i. or_else m (guard_of m (Some i) None c))) e ∙ at_option (λ i. or_else m (guard_of m (Some i) None c)) m (side_of a) o
+-- where a variable has no place, its term has none
+no_side : (over c : List ℕ) (a : ℕ) → place_in c (a / 2) ≡ None → side_over over c a ≡ None
+no_side over c a e = by (is_over over c)
+  where
+    by : (b : Bool) → (if b then side_in c a else None) ≡ None
+    by true = ap (option_map (side_of a)) e
+    by false = refl
 
-pub related_is : (packs : List (List ℕ)) (a b : ℕ) (c : ℤ) → IsChangeOf packs (a / 2) (related_at packs a b c) (related_in a b c)
-related_is packs a b c p m o e =
-    let F : ℕ → Octagon = λ i. changed_at (side_in (pack_at packs p) b) m (λ j. or_else m (guard_of m (Some i) (Some j) c)) in
-    ap (λ u. changed_at (option_map (side_of a) u) m F) e ∙ at_option F m (side_of a) o
+pub bounded_is : (packs : List (List ℕ)) (a : ℕ) (c : ℤ) (over : List ℕ) → IsChangeOf packs (a / 2) (bounded_at packs a c over) (bounded_in a c over)
+bounded_is packs a c over p m None e = ap (λ u. changed_at u m (λ i. or_else m (guard_of m (Some i) None c))) (no_side over (pack_at packs p) a e)
+bounded_is packs a c over p m (Some k) e = refl
 
-pub related_vars : (packs : List (List ℕ)) (a b : ℕ) (c : ℤ) (place : Place) (m : Octagon) → (related_at packs a b c place m).vars ≡ m.vars
-related_vars packs a b c place m = by (side_in (pack_at packs place.pack) b)
+pub related_is : (packs : List (List ℕ)) (a b : ℕ) (c : ℤ) (over : List ℕ) → IsChangeOf packs (a / 2) (related_at packs a b c over) (related_in a b c over)
+related_is packs a b c over p m o e = by (is_over over (pack_at packs p)) o e
+  where
+    at : Bool → ℕ → Octagon
+    at t i = changed_at (if t then side_in (pack_at packs p) b else None) m (λ j. or_else m (guard_of m (Some i) (Some j) c))
+
+    by : (t : Bool) (o : Option ℕ) → place_in (pack_at packs p) (a / 2) ≡ o → changed_at (if t then side_in (pack_at packs p) a else None) m (at t) ≡ changed_at o m (λ k. at t (side_of a k))
+    by true o e = ap (λ u. changed_at (option_map (side_of a) u) m (at true)) e ∙ at_option (at true) m (side_of a) o
+    by false None e = refl
+    by false (Some k) e = refl
+
+bound_vars : (m : Octagon) (i j : Option ℕ) (c : ℤ) → (changed_at i m (λ k. or_else m (guard_of m (Some k) j c))).vars ≡ m.vars
+bound_vars m None j c = refl
+bound_vars m (Some i) j c = refl
+
+pub bounded_vars : (packs : List (List ℕ)) (a : ℕ) (c : ℤ) (over : List ℕ) (place : Place) (m : Octagon) → (bounded_at packs a c over place m).vars ≡ m.vars
+bounded_vars packs a c over place m = bound_vars m (side_over over (pack_at packs place.pack) a) None c
+
+pub related_vars : (packs : List (List ℕ)) (a b : ℕ) (c : ℤ) (over : List ℕ) (place : Place) (m : Octagon) → (related_at packs a b c over place m).vars ≡ m.vars
+related_vars packs a b c over place m = by (side_over over (pack_at packs place.pack) b)
   where
     by : (o : Option ℕ) → (changed_at o m (λ j. or_else m (guard_of m (Some (side_of a place.place)) (Some j) c))).vars ≡ m.vars
     by None = refl
@@ -173,6 +195,14 @@ sides_apart c a b k j e f n h = by (place_in c (b / 2)) refl f
         let alike : b / 2 ≡ a / 2 = sym other ∙ ap (chosen_at c) half ∙ one in
         n (omega (arith, same, h, half, alike))
 
+-- the place of a term, where the pack has each variable, is its place
+pub side_is : (over c : List ℕ) (t i : ℕ) → side_over over c t ≡ Some i → side_in c t ≡ Some i
+side_is over c t i e = by (is_over over c) e
+  where
+    by : (b : Bool) → (if b then side_in c t else None) ≡ Some i → side_in c t ≡ Some i
+    by true f = f
+    by false f = absurd (cc)
+
 -- where place i of a variable's places is, and the octagon there
 pub record IsThere (packs : List (List ℕ)) (ms : List Octagon) (x : ℕ) (p : Place) : Type 0 where
   pub pack : p.pack < length packs
@@ -190,3 +220,10 @@ is_there packs ms x p w h =
 -- as many octagons as packs
 pub same_count : (packs : List (List ℕ)) (ms : List Octagon) → widths ms ≡ map length packs → length ms ≡ length packs
 same_count packs ms e = sym (length-map ms (λ (m : Octagon). m.vars)) ∙ ap length e ∙ length-map packs length
+
+-- the two terms are a guard of the octagon that is there
+pub terms_there : (packs : List (List ℕ)) (ms : List Octagon) (a b : ℕ) (over : List ℕ) (place : Place) (first : ℕ) (second : Option ℕ) → IsThere packs ms (a / 2) place → b ≢ bar a → first ≡ side_of a place.place → second ≡ side_over over (pack_at packs place.pack) b
+    → IfSome second (λ i. i < 2 * length (pack_at packs place.pack)) → IfSome second (λ k. IsGuard (octagon_at ms place.pack).vars (Some first) (Some k))
+terms_there packs ms a b over place first None h n e f g = tt
+terms_there packs ms a b over place first (Some j) h n e f g =
+    (omega (arith, h.place, h.width, e), omega (arith, g, h.width), λ same. sides_apart (pack_at packs place.pack) a b place.place j h.is (side_is over (pack_at packs place.pack) b j (sym f)) n (same ∙ ap bar e))

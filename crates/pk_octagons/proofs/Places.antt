@@ -8,7 +8,7 @@ use Rattle.pk_octagons.specs.Packs.{place_in}
 equal_test : (m n : ℕ) → m ≡ n → (m == n) ≡ true
 equal_test m n e = grind (arith, nat_tests)
 
-other_test : (m n : ℕ) → m ≢ n → (m == n) ≡ false
+pub other_test : (m n : ℕ) → m ≢ n → (m == n) ≡ false
 other_test m n e = grind (arith, nat_tests)
 
 first : (y x : ℕ) (ys : List ℕ) → y ≡ x → place_in (y ∷ ys) x ≡ Some 0

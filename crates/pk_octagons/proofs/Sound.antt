@@ -1,5 +1,5 @@
 -- What the operations on lists of octagons mean for the numbers that meet them.
-use Rattle.std.specs.Prelude.{◌≡◌, ◌≢◌, ◌⊎◌, ℕ, zero, suc, ◌+◌, ◌*◌, ◌/◌, ◌%◌, ◌<◌, ◌==◌, Bool, true, false, if◌then◌else◌, ℤ, pos, ◌+ℤ◌, ◌-ℤ◌, neg_ℤ, int_lt, List, [], ◌∷◌, length, slice_get, slice_index_or, Option, Some, None, option_map}
+use Rattle.std.specs.Prelude.{◌≡◌, ◌≢◌, ◌⊎◌, ℕ, zero, suc, ◌+◌, ◌*◌, ◌/◌, ◌%◌, ◌<◌, ◌==◌, Bool, true, false, ◌&&◌, if◌then◌else◌, ℤ, pos, ◌+ℤ◌, ◌-ℤ◌, neg_ℤ, int_lt, List, [], ◌∷◌, length, slice_get, slice_index_or, Option, Some, None, option_map}
 use Rattle.std.proofs.Common.{◌∙◌, ap, refl, sym, subst, arith, inl, inr}
 use Rattle.std.proofs.lemmas.Int.{ints}
 use Rattle.std.proofs.lemmas.Bool.Decides.{nat_tests}
@@ -16,7 +16,7 @@ use Rattle.pk_octops.specs.Tables as tables
 use Rattle.pk_octops.proofs.Along.{assign_sound, one_term, two_terms, lowered_holds}
 use Rattle.pk_octops.proofs.Sound.{join_sound, widen_sound, narrow_sound, meets_from}
 use Rattle.pk_value.specs.Known.{Known}
-use Rattle.pk_octagons.specs.Packs.{chosen_at, place_in, IsPack, ArePacks, side_in}
+use Rattle.pk_octagons.specs.Packs.{chosen_at, place_in, IsPack, ArePacks, is_some_over, side_in, side_over}
 use Rattle.pk_octagons.specs.Octagons.{AreOctagons, AreBelow, joined_octagons, widened_octagons, narrowed_octagons}
 use Rattle.pk_octagons.specs.Changes.{then_with, each_changed, changed_at, assigned_in, bounded_in, related_in, or_else, AreTerms, assigned_octagons, guarded_octagons, bound_by, bound_in}
 use Rattle.pk_octagons.specs.Reduced.{by_ranges, closed_in, with_first, closed_octagons}
@@ -24,6 +24,7 @@ use Rattle.pk_octagons.specs.Members.{number_if, selected, MeetsIn, MeetAll, Mee
 use Rattle.pk_octagons.proofs.Lists.{get_some}
 use Rattle.pk_octagons.proofs.Places.{place_there, none_apart}
 use Rattle.pk_octagons.proofs.Octs.{by_ranges_octagon, by_ranges_kept, by_ranges_falls}
+use Rattle.pk_octagons.proofs.Overs.{side_is}
 
 -- ---- lists of octagons
 
@@ -168,29 +169,29 @@ after n c x k y z h e j = by (j == k) refl
         sym (ap (selected c (with_number x y z)) same ∙ selected_is c (with_number x y z) k here.0 ∙ ap (λ b. if b then z else x (chosen_at c k)) yes)
     by false f = there (slice_get c j) refl (grind (arith, f, nat_tests))
 
-gives_in : (c : List ℕ) (x : ℕ → ℤ) (t : Option ℕ) (d z : ℤ) → Gives x t d z → Gives (selected c x) (then_with t (side_in c)) d z
-gives_in c x None d z h = tt
-gives_in c x (Some t) d z h = by (side_in c t) refl
+gives_in : (over c : List ℕ) (x : ℕ → ℤ) (t : Option ℕ) (d z : ℤ) → Gives x t d z → Gives (selected c x) (then_with t (side_over over c)) d z
+gives_in over c x None d z h = tt
+gives_in over c x (Some t) d z h = by (side_over over c t) refl
   where
-    by : (o : Option ℕ) → side_in c t ≡ o → Gives (selected c x) o d z
+    by : (o : Option ℕ) → side_over over c t ≡ o → Gives (selected c x) o d z
     by None e = tt
-    by (Some i) e = rw (side_selected c x t i e) h
+    by (Some i) e = rw (side_selected c x t i (side_is over c t i e)) h
 
-assigned_one : (n : ℕ) (c : List ℕ) (m : Octagon) (x : ℕ → ℤ) (y : ℕ) (t : Option ℕ) (d z : ℤ) → IsPack n c → Gives x t d z → MeetsIn x c m → MeetsIn (with_number x y z) c (assigned_in y t d c m)
-assigned_one n c m x y t d z h g q = by (place_in c y) refl
+assigned_one : (n : ℕ) (over c : List ℕ) (m : Octagon) (x : ℕ → ℤ) (y : ℕ) (t : Option ℕ) (d z : ℤ) → IsPack n c → Gives x t d z → MeetsIn x c m → MeetsIn (with_number x y z) c (assigned_in y t d over c m)
+assigned_one n over c m x y t d z h g q = by (place_in c y) refl
   where
-    by : (o : Option ℕ) → place_in c y ≡ o → MeetsIn (with_number x y z) c (changed_at o m (λ k. assignment_of m k (then_with t (side_in c)) d))
+    by : (o : Option ℕ) → place_in c y ≡ o → MeetsIn (with_number x y z) c (changed_at o m (λ k. assignment_of m k (then_with t (side_over over c)) d))
     by None e = meets_same (entry m) (selected c x) (selected c (with_number x y z)) (apart_same c x y z e) q
     by (Some k) e =
-        let u = then_with t (side_in c) in
+        let u = then_with t (side_over over c) in
         meets_same (entry (assignment_of m k u d)) (with_number (selected c x) k z) (selected c (with_number x y z)) (after n c x k y z h e)
-        (assign_sound m.vars k u d m (assignment_of m k u d) (octagon_entries m.vars (assigned (entry m) k u d)) (selected c x) z (gives_in c x t d z g) q)
+        (assign_sound m.vars k u d m (assignment_of m k u d) (octagon_entries m.vars (assigned (entry m) k u d)) (selected c x) z (gives_in over c x t d z g) q)
 
-assigns : (n : ℕ) (packs : List (List ℕ)) (ms : List Octagon) (x : ℕ → ℤ) (y : ℕ) (t : Option ℕ) (c z : ℤ) → ArePacks n packs → AreOctagons packs ms → Gives x t c z → MeetAll packs ms x → MeetAll packs (assigned_octagons packs ms y t c) (with_number x y z)
-assigns n [] ms x y t c z a h g m = tt
-assigns n (p ∷ packs) [] x y t c z a h g m = absurd m
-assigns n (p ∷ packs) (o ∷ ms) x y t c z a h g m =
-    (assigned_one n p o x y t c z (All-head (IsPack n) p packs a) g m.0, assigns n packs ms x y t c z (All-tail (IsPack n) p packs a) (first_of p packs o ms h).rest g m.1)
+assigns : (n : ℕ) (packs : List (List ℕ)) (ms : List Octagon) (x : ℕ → ℤ) (y : ℕ) (t : Option ℕ) (c z : ℤ) (over : List ℕ) → ArePacks n packs → AreOctagons packs ms → Gives x t c z → MeetAll packs ms x → MeetAll packs (assigned_octagons packs ms y t c over) (with_number x y z)
+assigns n [] ms x y t c z over a h g m = tt
+assigns n (p ∷ packs) [] x y t c z over a h g m = absurd m
+assigns n (p ∷ packs) (o ∷ ms) x y t c z over a h g m =
+    (assigned_one n over p o x y t c z (All-head (IsPack n) p packs a) g m.0, assigns n packs ms x y t c z over (All-tail (IsPack n) p packs a) (first_of p packs o ms h).rest g m.1)
 
 -- ---- guards
 
@@ -199,34 +200,34 @@ each_kept f [] ms x k m = tt
 each_kept f (c ∷ packs) [] x k m = absurd m
 each_kept f (c ∷ packs) (o ∷ ms) x k m = (k c o m.0, each_kept f packs ms x k m.1)
 
-bounded_one : (x : ℕ → ℤ) (a : ℕ) (d : ℤ) → Obeys x (Some a) None d → (c : List ℕ) (m : Octagon) → MeetsIn x c m → MeetsIn x c (bounded_in a d c m)
-bounded_one x a d h c m q = by (side_in c a) refl
+bounded_one : (x : ℕ → ℤ) (a : ℕ) (d : ℤ) (over : List ℕ) → Obeys x (Some a) None d → (c : List ℕ) (m : Octagon) → MeetsIn x c m → MeetsIn x c (bounded_in a d over c m)
+bounded_one x a d over h c m q = by (side_over over c a) refl
   where
-    by : (o : Option ℕ) → side_in c a ≡ o → MeetsIn x c (changed_at o m (λ i. or_else m (guard_of m (Some i) None d)))
+    by : (o : Option ℕ) → side_over over c a ≡ o → MeetsIn x c (changed_at o m (λ i. or_else m (guard_of m (Some i) None d)))
     by None e = q
     by (Some i) e =
         meets_from m.vars (guarded (entry m) (Some i) None d) (octagon_of m.vars (guarded (entry m) (Some i) None d)) (selected c x) (octagon_entries m.vars (guarded (entry m) (Some i) None d))
-        (λ u v id jd. lowered_holds (entry m) (bar i) i (d +ℤ d) (selected c x) q (one_term (selected c x) i (bar i) d refl (rw (side_selected c x a i e) h)) u v)
+        (λ u v id jd. lowered_holds (entry m) (bar i) i (d +ℤ d) (selected c x) q (one_term (selected c x) i (bar i) d refl (rw (side_selected c x a i (side_is over c a i e)) h)) u v)
 
-related_one : (x : ℕ → ℤ) (a b : ℕ) (d : ℤ) → Obeys x (Some a) (Some b) d → (c : List ℕ) (m : Octagon) → MeetsIn x c m → MeetsIn x c (related_in a b d c m)
-related_one x a b d h c m q = by (side_in c a) refl (side_in c b) refl
+related_one : (x : ℕ → ℤ) (a b : ℕ) (d : ℤ) (over : List ℕ) → Obeys x (Some a) (Some b) d → (c : List ℕ) (m : Octagon) → MeetsIn x c m → MeetsIn x c (related_in a b d over c m)
+related_one x a b d over h c m q = by (side_over over c a) refl (side_over over c b) refl
   where
-    by : (o : Option ℕ) → side_in c a ≡ o → (u : Option ℕ) → side_in c b ≡ u → MeetsIn x c (changed_at o m (λ i. changed_at u m (λ j. or_else m (guard_of m (Some i) (Some j) d))))
+    by : (o : Option ℕ) → side_over over c a ≡ o → (u : Option ℕ) → side_over over c b ≡ u → MeetsIn x c (changed_at o m (λ i. changed_at u m (λ j. or_else m (guard_of m (Some i) (Some j) d))))
     by None e u f = q
     by (Some i) e None f = q
     by (Some i) e (Some j) f =
         meets_from m.vars (guarded (entry m) (Some i) (Some j) d) (octagon_of m.vars (guarded (entry m) (Some i) (Some j) d)) (selected c x) (octagon_entries m.vars (guarded (entry m) (Some i) (Some j) d))
-        (λ u v id jd. lowered_holds (entry m) (bar j) i d (selected c x) q (two_terms (selected c x) i j (bar j) d refl (rw (side_selected c x a i e, side_selected c x b j f) h)) u v)
+        (λ u v id jd. lowered_holds (entry m) (bar j) i d (selected c x) q (two_terms (selected c x) i j (bar j) d refl (rw (side_selected c x a i (side_is over c a i e), side_selected c x b j (side_is over c b j f)) h)) u v)
 
-guards : (packs : List (List ℕ)) (ms : List Octagon) (x : ℕ → ℤ) (a b : Option ℕ) (c : ℤ) → AreOctagons packs ms → AreTerms a b → Obeys x a b c → MeetAll packs ms x → MeetAllIf packs (guarded_octagons packs ms a b c) x
-guards packs ms x None None c h t o m = by (int_lt c (pos 0)) refl
+guards : (packs : List (List ℕ)) (ms : List Octagon) (x : ℕ → ℤ) (a b : Option ℕ) (c : ℤ) (over : List ℕ) → AreOctagons packs ms → AreTerms a b → Obeys x a b c → MeetAll packs ms x → MeetAllIf packs (guarded_octagons packs ms a b c over) x
+guards packs ms x None None c over h t o m = by (int_lt c (pos 0)) refl
   where
-    by : (b : Bool) → int_lt c (pos 0) ≡ b → MeetAllIf packs (if b then None else Some ms) x
+    by : (b : Bool) → int_lt c (pos 0) ≡ b → MeetAllIf packs (if b && is_some_over over packs then None else Some ms) x
     by true e = absurd (omega (arith, ints, e, o))
     by false e = m
-guards packs ms x None (Some b) c h t o m = absurd t
-guards packs ms x (Some a) None c h t o m = each_kept (bounded_in a c) packs ms x (bounded_one x a c o) m
-guards packs ms x (Some a) (Some b) c h t o m = each_kept (related_in a b c) packs ms x (related_one x a b c o) m
+guards packs ms x None (Some b) c over h t o m = absurd t
+guards packs ms x (Some a) None c over h t o m = each_kept (bounded_in a c over) packs ms x (bounded_one x a c over o) m
+guards packs ms x (Some a) (Some b) c over h t o m = each_kept (related_in a b c over) packs ms x (related_one x a b c over o) m
 
 -- ---- what is told of two variables
 

@@ -1,10 +1,10 @@
 -- A variable assigned, and a guard passed, in each octagon that is over their variables; and what is known of two variables.
-use Rattle.std.specs.Prelude.{◌≢◌, ℕ, List, [], ◌∷◌, ℤ, pos, int_lt, if◌then◌else◌, Option, Some, None}
+use Rattle.std.specs.Prelude.{◌≢◌, ℕ, List, [], ◌∷◌, ℤ, pos, int_lt, ◌&&◌, if◌then◌else◌, Option, Some, None}
 use Rattle.pk_octmat.specs.Bounds.{lesser}
 use Rattle.pk_octmat.specs.Octagon.{Octagon, entry, bar}
 use Rattle.pk_octops.specs.Assigns.{assignment_of}
 use Rattle.pk_octops.specs.Guards.{guard_of}
-use Rattle.pk_octagons.specs.Packs.{place_in, side_in}
+use Rattle.pk_octagons.specs.Packs.{place_in, is_some_over, side_in, side_over}
 
 -- goes on with what there is
 abbrev pub then_with : {A B : Type 0} → Option A → (A → Option B) → Option B
@@ -22,28 +22,29 @@ abbrev pub changed_at : Option ℕ → Octagon → (ℕ → Octagon) → Octagon
 changed_at None m f = m
 changed_at (Some k) m f = f k
 
--- Variable x gets V(t) + c, or any number where there is no t: in an octagon over these variables, which knows nothing of V(t) where it isn't over t's variable.
-abbrev pub assigned_in : ℕ → Option ℕ → ℤ → List ℕ → Octagon → Octagon
-assigned_in x t c chosen m =
-    changed_at (place_in chosen x) m (λ k. assignment_of m k (then_with t (side_in chosen)) c)
+-- Variable x gets V(t) + c in an octagon over these variables, or any number: where there is no t, and where the octagon isn't over each variable that is read.
+abbrev pub assigned_in : ℕ → Option ℕ → ℤ → List ℕ → List ℕ → Octagon → Octagon
+assigned_in x t c over chosen m =
+    changed_at (place_in chosen x) m (λ k. assignment_of m k (then_with t (side_over over chosen)) c)
 
-abbrev pub assigned_octagons : List (List ℕ) → List Octagon → ℕ → Option ℕ → ℤ → List Octagon
-assigned_octagons packs ms x t c = each_changed (assigned_in x t c) packs ms
+abbrev pub assigned_octagons : List (List ℕ) → List Octagon → ℕ → Option ℕ → ℤ → List ℕ → List Octagon
+assigned_octagons packs ms x t c over = each_changed (assigned_in x t c over) packs ms
 
 -- the octagon, or another that there is
 abbrev pub or_else : Octagon → Option Octagon → Octagon
 or_else m None = m
 or_else m (Some n) = n
 
--- V(a) is at most c, in an octagon over these variables
-abbrev pub bounded_in : ℕ → ℤ → List ℕ → Octagon → Octagon
-bounded_in a c chosen m = changed_at (side_in chosen a) m (λ i. or_else m (guard_of m (Some i) None c))
+-- V(a) is at most c, in an octagon over these variables, where it is over each that is read
+abbrev pub bounded_in : ℕ → ℤ → List ℕ → List ℕ → Octagon → Octagon
+bounded_in a c over chosen m =
+    changed_at (side_over over chosen a) m (λ i. or_else m (guard_of m (Some i) None c))
 
--- V(a) + V(b) is at most c, where it is over both
-abbrev pub related_in : ℕ → ℕ → ℤ → List ℕ → Octagon → Octagon
-related_in a b c chosen m =
-    changed_at (side_in chosen a) m (λ i.
-    changed_at (side_in chosen b) m (λ j. or_else m (guard_of m (Some i) (Some j) c)))
+-- V(a) + V(b) is at most c, so
+abbrev pub related_in : ℕ → ℕ → ℤ → List ℕ → List ℕ → Octagon → Octagon
+related_in a b c over chosen m =
+    changed_at (side_over over chosen a) m (λ i.
+    changed_at (side_over over chosen b) m (λ j. or_else m (guard_of m (Some i) (Some j) c)))
 
 -- a guard's terms: the second asks for the first, and is not its negative
 abbrev pub AreTerms : Option ℕ → Option ℕ → Type 0
@@ -52,11 +53,12 @@ AreTerms None (Some b) = ⊥
 AreTerms (Some a) None = Unit {0}
 AreTerms (Some a) (Some b) = b ≢ bar a
 
--- V(a) + V(b) is at most c, without the terms that are none: of nothing but a negative number nothing is left
-abbrev pub guarded_octagons : List (List ℕ) → List Octagon → Option ℕ → Option ℕ → ℤ → Option (List Octagon)
-guarded_octagons packs ms None b c = if int_lt c (pos 0) then None else Some ms
-guarded_octagons packs ms (Some a) None c = Some (each_changed (bounded_in a c) packs ms)
-guarded_octagons packs ms (Some a) (Some b) c = Some (each_changed (related_in a b c) packs ms)
+-- V(a) + V(b) is at most c, without the terms that are none: in each octagon that is over each variable that is read. Where there is one, of nothing but a negative number
+-- nothing is left.
+abbrev pub guarded_octagons : List (List ℕ) → List Octagon → Option ℕ → Option ℕ → ℤ → List ℕ → Option (List Octagon)
+guarded_octagons packs ms None b c over = if int_lt c (pos 0) && is_some_over over packs then None else Some ms
+guarded_octagons packs ms (Some a) None c over = Some (each_changed (bounded_in a c over) packs ms)
+guarded_octagons packs ms (Some a) (Some b) c over = Some (each_changed (related_in a b c over) packs ms)
 
 -- the bound on V(j) - V(i) of an octagon over these variables, if there is one
 abbrev pub bound_by : List ℕ → Octagon → ℕ → ℕ → Option ℤ

@@ -43,7 +43,7 @@ abbrev pub AreInRange : List (List ℕ) → List Known → (ℕ → ℤ) → Typ
 AreInRange packs vs x = (y : ℕ) → IsChosen packs y → Holds (known_at vs y).range (x y)
 
 -- Joins and widening steps are above both; what is below has no other points; narrowing keeps what both have. Where a variable gets a number, the octagons that are over it are
--- assigned; a guard keeps the points that obey it; what is told of two variables holds.
+-- assigned; a guard keeps the points that obey it, whatever variables are read; what is told of two variables holds.
 pub record OctagonsAreSound : Type 0 where
   pub joins : (packs : List (List ℕ)) (ms ns : List Octagon) (x : ℕ → ℤ) → AreOctagons packs ms →
       AreOctagons packs ns → MeetAll packs ms x ⊎ MeetAll packs ns x → MeetAll packs (joined_octagons ms ns) x
@@ -53,12 +53,12 @@ pub record OctagonsAreSound : Type 0 where
       AreOctagons packs ns → MeetAll packs hs x ⊎ MeetAll packs ns x → MeetAll packs (widened_octagons hs ns) x
   pub narrowings : (packs : List (List ℕ)) (hs ns : List Octagon) (x : ℕ → ℤ) → AreOctagons packs hs →
       AreOctagons packs ns → MeetAll packs hs x → MeetAll packs ns x → MeetAll packs (narrowed_octagons hs ns) x
-  pub assigned : (n : ℕ) (packs : List (List ℕ)) (ms : List Octagon) (x : ℕ → ℤ) (y : ℕ) (t : Option ℕ) (c z : ℤ) →
-      ArePacks n packs → AreOctagons packs ms → Gives x t c z → MeetAll packs ms x →
-      MeetAll packs (assigned_octagons packs ms y t c) (with_number x y z)
-  pub guarded : (packs : List (List ℕ)) (ms : List Octagon) (x : ℕ → ℤ) (a b : Option ℕ) (c : ℤ) →
+  pub assigned : (n : ℕ) (packs : List (List ℕ)) (ms : List Octagon) (x : ℕ → ℤ) (y : ℕ) (t : Option ℕ) (c z : ℤ)
+      (over : List ℕ) → ArePacks n packs → AreOctagons packs ms → Gives x t c z → MeetAll packs ms x →
+      MeetAll packs (assigned_octagons packs ms y t c over) (with_number x y z)
+  pub guarded : (packs : List (List ℕ)) (ms : List Octagon) (x : ℕ → ℤ) (a b : Option ℕ) (c : ℤ) (over : List ℕ) →
       AreOctagons packs ms → AreTerms a b → Obeys x a b c → MeetAll packs ms x →
-      MeetAllIf packs (guarded_octagons packs ms a b c) x
+      MeetAllIf packs (guarded_octagons packs ms a b c over) x
   pub told : (packs : List (List ℕ)) (ms : List Octagon) (x : ℕ → ℤ) (i j : ℕ) → MeetAll packs ms x →
       AtMost (Some (side x j -ℤ side x i)) (bound_in packs ms i j)
 

@@ -1,5 +1,5 @@
 -- The lists of variables that octagons are over.
-use Rattle.std.specs.Prelude.{◌≡◌, ℕ, suc, ◌+◌, ◌*◌, ◌/◌, ◌%◌, ◌<◌, ◌^◌, ◌==◌, if◌then◌else◌, List, [], ◌∷◌, All, length, slice_index_or, Option, Some, None, option_map}
+use Rattle.std.specs.Prelude.{◌≡◌, ℕ, suc, ◌+◌, ◌*◌, ◌/◌, ◌%◌, ◌<◌, ◌^◌, ◌==◌, if◌then◌else◌, Bool, true, false, ◌||◌, ◌&&◌, List, [], ◌∷◌, All, length, slice_index_or, Option, Some, None, is_some, option_map}
 use Rattle.pk_octagons.specs.declared.packs.Place.{Place}
 
 -- the variable of a place
@@ -22,6 +22,21 @@ pack_at packs p = slice_index_or packs p []
 
 abbrev pub ArePacks : ℕ → List (List ℕ) → Type 0
 ArePacks n packs = All (IsPack n) packs
+
+-- whether one of the packs has a variable
+abbrev pub is_chosen : List (List ℕ) → ℕ → Bool
+is_chosen [] x = false
+is_chosen (chosen ∷ packs) x = is_some (place_in chosen x) || is_chosen packs x
+
+-- whether a pack has each of these variables
+abbrev pub is_over : List ℕ → List ℕ → Bool
+is_over [] chosen = true
+is_over (x ∷ over) chosen = is_some (place_in chosen x) && is_over over chosen
+
+-- whether one of the packs does
+abbrev pub is_some_over : List ℕ → List (List ℕ) → Bool
+is_some_over over [] = false
+is_some_over over (chosen ∷ packs) = is_over over chosen || is_some_over over packs
 
 -- a place in pack p, before others
 abbrev pub with_place : ℕ → Option ℕ → List Place → List Place
@@ -50,3 +65,7 @@ side_of t k = 2 * k + t % 2
 -- The place in an octagon of V(t): V(2x) is variable x, V(2x + 1) its negative, and so are V(2k) and V(2k + 1) in an octagon of which it is variable k.
 abbrev pub side_in : List ℕ → ℕ → Option ℕ
 side_in chosen t = option_map (side_of t) (place_in chosen (t / 2))
+
+-- that, in a pack that has each of these variables
+abbrev pub side_over : List ℕ → List ℕ → ℕ → Option ℕ
+side_over over chosen t = if is_over over chosen then side_in chosen t else None

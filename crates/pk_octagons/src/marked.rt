@@ -172,6 +172,14 @@ impl Marked {
         })
     }
 
+    /// Whether V(a) + V(b) is at most c already.
+    pub(crate) fn obeys(&self, a: Option<u32>, b: Option<u32>, c: i128) -> bool
+        requires { IsGuard self.now.vars a b }
+        ensures { result ≡ true → guard_of self.now a b c ≡ Some self.now }
+    {
+        is_obeyed(&self.octagon, a, b, c)
+    }
+
     /// V(a) + V(b) is at most c; none where no term is left, and c is negative.
     pub(crate) fn guarded(
         &self,
@@ -184,7 +192,7 @@ impl Marked {
         ensures { IfOk result (λ o. o ≡ guard_of self.now a b c) }
     {
         self.octagon.is_octagon();
-        if is_obeyed(&self.octagon, a, b, c) {
+        if self.obeys(a, b, c) {
             return Ok(Some(self.copy()?));
         }
         let mut m = self.octagon.copy()?;

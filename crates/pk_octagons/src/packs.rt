@@ -158,8 +158,9 @@ fn placed(alloc: Global, count: usize, packs: &[Pack]) -> Result<Vec<Places>, Al
 }
 
 impl PlacedPacks {
-    ghost use Rattle.std.specs.Prelude.{All};
-    ghost use Rattle.pk_octagons.specs.Packs.{pack_at, IsPlaceOf};
+    ghost use Rattle.std.specs.Prelude.{◌↔◌, All, true};
+    ghost use Rattle.pk_octagons.specs.Packs.{pack_at, is_chosen, IsPlaceOf};
+    ghost use Rattle.pk_octagons.specs.Members.{IsChosen};
 
     /// Packs of variables of which there are so many.
     pub fn new(alloc: Global, count: usize, packs: Vec<Pack>) -> Result<PlacedPacks, AllocError>
@@ -195,5 +196,15 @@ impl PlacedPacks {
             return self.places[x].as_slice();
         }
         &[]
+    }
+
+    /// Whether one of the packs has a variable.
+    pub fn is_chosen(&self, x: usize) -> bool
+        ensures value { result ≡ is_chosen self.now x }
+        ensures there { result ≡ true ↔ IsChosen self.now x }
+        ensures few { result ≡ true → x < 2 ^ 63 }
+    {
+        let _ = &self.places;
+        !self.places(x).is_empty()
     }
 }

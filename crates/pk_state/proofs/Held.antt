@@ -1,7 +1,7 @@
 -- What is made of a layout's facts are facts of the layout.
-use Rattle.std.specs.Prelude.{◌≡◌, ℕ, zero, suc, ◌<◌, ◌≤◌, ◌&&◌, Bool, true, false, if◌then◌else◌, ℤ, pos, ◌-ℤ◌, ◌≤ℤ◌, int_le, List, length, Option, Some, None}
+use Rattle.std.specs.Prelude.{◌≡◌, ℕ, ◌<◌, ◌&&◌, Bool, true, false, if◌then◌else◌, ℤ, pos, ◌-ℤ◌, ◌≤ℤ◌, int_le, List, length, Option, Some, None}
 use Rattle.std.specs.Ordering.{int_eq}
-use Rattle.std.proofs.Common.{◌∙◌, refl, sym, subst, arith, inr, set}
+use Rattle.std.proofs.Common.{◌∙◌, refl, sym, arith, inr}
 use Rattle.std.proofs.lemmas.Int.{ints, clamps}
 use Rattle.pk_ctypes.specs.declared.types.IntType.{IntType}
 use Rattle.pk_interval.specs.Ranges.{Range, range_from}
@@ -14,21 +14,22 @@ use Rattle.pk_ctypes.proofs.Small.{both_true}
 use Rattle.pk_congr.proofs.Numbers.{class_reduced, test_held}
 use Rattle.pk_value.specs.Known.{Known}
 use Rattle.pk_value.specs.Known as known
-use Rattle.pk_octmat.specs.Octagon.{Octagon, IsOctagon}
-use Rattle.pk_octclose.specs.Places.{closing_of}
-use Rattle.pk_octclose.proofs.Floyd.{closing_right}
-use Rattle.pk_octops.proofs.Kept.{values_kept}
+use Rattle.pk_octmat.specs.Octagon.{Octagon}
 use Rattle.pk_blocks.specs.Rows.{merged_from}
 use Rattle.pk_blocks.proofs.Merging.{merged_length}
-use Rattle.pk_state.specs.Layouts.{Layout, IsLayout, type_at, chosen_at}
-use Rattle.pk_state.specs.Facts.{Facts, known_at, AreValues, AreFactsIf, joined, widened, narrowed}
-use Rattle.pk_state.specs.Reduced.{then_with, red_all, by_ranges, bounded_by, bounded_at, bounded_all, with_closed, reduced}
+use Rattle.pk_octagons.specs.Values.{type_at, known_at, AreValues, IsValue}
+use Rattle.pk_octagons.specs.Octagons.{AreOctagons}
+use Rattle.pk_octagons.specs.Changes.{then_with}
+use Rattle.pk_octagons.specs.Reduced.{closed_octagons, bounded_values}
+use Rattle.pk_octagons.proofs.Bounding.{value_at}
+use Rattle.pk_octagons.proofs.Stay.{octagons_stay}
+use Rattle.pk_state.specs.Layouts.{Layout, IsLayout}
+use Rattle.pk_state.specs.Facts.{Facts, AreFactsIf, joined, widened, narrowed}
+use Rattle.pk_state.specs.Reduced.{red_all, with_closed, reduced}
 use Rattle.pk_state.specs.Members.{FactsStay}
 use Rattle.pk_state.proofs.Lists.{merged_at}
 use Rattle.pk_state.proofs.Reds.{reds_of}
-use Rattle.pk_state.proofs.Octs.{by_ranges_vars, by_ranges_octagon}
-use Rattle.pk_state.specs.Changes.{IsValue}
-use Rattle.pk_state.proofs.Stays.{value_at, red_value, bounded_value, write_values}
+use Rattle.pk_state.proofs.Stays.{red_value}
 
 -- ---- one value
 
@@ -72,37 +73,20 @@ narrowed_value t h n k m = record { inside = stays.narrowings t h.range n.range 
 
 -- ---- all of them
 
-pub values_from : (l : Layout) (vs : List Known) → length vs ≡ length l.types → ((x : ℕ) → x < length vs → IsValue (type_at l x) (known_at vs x)) → AreValues l vs
-values_from l vs e h = record { size = e; inside = λ x p. (h x p).inside; some = λ x p. (h x p).some; classes = λ x p. (h x p).class }
+pub values_from : (types : List IntType) (vs : List Known) → length vs ≡ length types → ((x : ℕ) → x < length vs → IsValue (type_at types x) (known_at vs x)) → AreValues types vs
+values_from types vs e h = record { size = e; inside = λ x p. (h x p).inside; some = λ x p. (h x p).some; classes = λ x p. (h x p).class }
 
-merged_values : (l : Layout) (f : ℕ → Known → Known → Known) (xs ys : List Known) → AreValues l xs → AreValues l ys → ((x : ℕ) (a b : Known) → IsValue (type_at l x) a → IsValue (type_at l x) b → IsValue (type_at l x) (f x a b)) → AreValues l (merged_from f 0 xs ys)
-merged_values l f xs ys h k each =
+merged_values : (types : List IntType) (f : ℕ → Known → Known → Known) (xs ys : List Known) → AreValues types xs → AreValues types ys → ((x : ℕ) (a b : Known) → IsValue (type_at types x) a → IsValue (type_at types x) b → IsValue (type_at types x) (f x a b)) → AreValues types (merged_from f 0 xs ys)
+merged_values types f xs ys h k each =
     let e : length xs ≡ length ys = h.size ∙ sym k.size in
-    values_from l (merged_from f 0 xs ys) (merged_length f 0 xs ys e ∙ h.size)
+    values_from types (merged_from f 0 xs ys) (merged_length f 0 xs ys e ∙ h.size)
     (λ x p. let here : x < length xs = omega (arith, p, merged_length f 0 xs ys e) in
-    rw (merged_at f 0 xs ys x x here e (omega arith)) (each x (known_at xs x) (known_at ys x) (value_at l xs x h here) (value_at l ys x k (omega (arith, here, e)))))
+    rw (merged_at f 0 xs ys x x here e (omega arith)) (each x (known_at xs x) (known_at ys x) (value_at types xs x h here) (value_at types ys x k (omega (arith, here, e)))))
 
-reds_values : (l : Layout) (vs ws : List Known) → AreValues l vs → red_all vs ≡ Some ws → AreValues l ws
-reds_values l vs ws h e =
+pub reds_values : (types : List IntType) (vs ws : List Known) → AreValues types vs → red_all vs ≡ Some ws → AreValues types ws
+reds_values types vs ws h e =
     let r = reds_of vs ws e in
-    values_from l ws (r.size ∙ h.size) (λ x p. let here : x < length vs = omega (arith, p, r.size) in red_value (type_at l x) (known_at vs x) (known_at ws x) (value_at l vs x h here) (r.each x here))
-
-bounded_one : (l : Layout) (m : Octagon) (k x : ℕ) (vs ws : List Known) → AreValues l vs → x < length vs → bounded_at m k x vs ≡ Some ws → AreValues l ws
-bounded_one l m k x vs ws h p e = by (bounded_by m k (known_at vs x)) refl e
-  where
-    by : (o : Option Known) → bounded_by m k (known_at vs x) ≡ o → then_with o (λ v. Some (set vs x v)) ≡ Some ws → AreValues l ws
-    by None f g = absurd (cc)
-    by (Some v) f g = let same : set vs x v ≡ ws = cc in subst (AreValues l) same (write_values l vs x v p (bounded_value (type_at l x) m k (known_at vs x) v (value_at l vs x h p) f) h)
-
-bounded_values : (l : Layout) (m : Octagon) (n : ℕ) (vs ws : List Known) → IsLayout l → n ≤ length l.chosen → AreValues l vs → bounded_all l m n vs ≡ Some ws → AreValues l ws
-bounded_values l m zero vs ws h p a e = let same : vs ≡ ws = cc in subst (AreValues l) same a
-bounded_values l m (suc k) vs ws h p a e = by (bounded_all l m k vs) refl e (λ us f. bounded_values l m k vs us h (omega arith) a f)
-  where
-    by : (o : Option (List Known)) → bounded_all l m k vs ≡ o → then_with o (bounded_at m k (chosen_at l k)) ≡ Some ws → ((us : List Known) → bounded_all l m k vs ≡ Some us → AreValues l us) → AreValues l ws
-    by None f g ih = absurd (cc)
-    by (Some us) f g ih =
-        let b = ih us f in
-        bounded_one l m k (chosen_at l k) us ws b (omega (arith, h.there k (omega arith), b.size)) g
+    values_from types ws (r.size ∙ h.size) (λ x p. let here : x < length vs = omega (arith, p, r.size) in red_value (type_at types x) (known_at vs x) (known_at ws x) (value_at types vs x h here) (r.each x here))
 
 -- ---- facts
 
@@ -110,53 +94,48 @@ joins : (l : Layout) (a b : Option Facts) → AreFactsIf l a → AreFactsIf l b 
 joins l None b h k = k
 joins l (Some a) None h k = h
 joins l (Some a) (Some b) h k = record {
-  values = merged_values l (λ x. known.joined) a.values b.values h.values k.values (λ x u v p q. joined_value (type_at l x) u v p q);
-  vars = h.vars;
-  octagon = values_kept.join_octagon a.octagon b.octagon h.octagon k.octagon (k.vars ∙ sym h.vars);
+  values = merged_values l.types (λ x. known.joined) a.values b.values h.values k.values (λ x u v p q. joined_value (type_at l.types x) u v p q);
+  octagons = octagons_stay.joins l.packs a.octagons b.octagons h.octagons k.octagons;
 }
 
 widenings : (l : Layout) (thresholds : List ℤ) (h n : Option Facts) → AreFactsIf l h → AreFactsIf l n → AreFactsIf l (widened l thresholds h n)
 widenings l cs None n h k = k
 widenings l cs (Some a) None h k = h
 widenings l cs (Some a) (Some b) h k = record {
-  values = merged_values l (λ x. known.widened (type_at l x) cs) a.values b.values h.values k.values (λ x u v p q. widened_value (type_at l x) cs u v p q);
-  vars = h.vars;
-  octagon = values_kept.widening_octagon a.octagon b.octagon h.octagon k.octagon (k.vars ∙ sym h.vars);
+  values = merged_values l.types (λ x. known.widened (type_at l.types x) cs) a.values b.values h.values k.values (λ x u v p q. widened_value (type_at l.types x) cs u v p q);
+  octagons = octagons_stay.widenings l.packs a.octagons b.octagons h.octagons k.octagons;
 }
 
 narrowings : (l : Layout) (h n : Option Facts) → AreFactsIf l h → AreFactsIf l n → AreFactsIf l (narrowed l h n)
 narrowings l None n h k = tt
 narrowings l (Some a) None h k = h
 narrowings l (Some a) (Some b) h k = record {
-  values = merged_values l (λ x. known.narrowed (type_at l x)) a.values b.values h.values k.values (λ x u v p q. narrowed_value (type_at l x) u v p q);
-  vars = h.vars;
-  octagon = values_kept.narrowing_octagon a.octagon b.octagon h.octagon k.octagon (k.vars ∙ sym h.vars);
+  values = merged_values l.types (λ x. known.narrowed (type_at l.types x)) a.values b.values h.values k.values (λ x u v p q. narrowed_value (type_at l.types x) u v p q);
+  octagons = octagons_stay.narrowings l.packs a.octagons b.octagons h.octagons k.octagons;
 }
 
-closed_stays : (l : Layout) (vs : List Known) (m : Octagon) → IsLayout l → AreValues l vs → m.vars ≡ length l.chosen → IsOctagon m → AreFactsIf l (with_closed l vs m)
-closed_stays l vs m h a v o = by (bounded_all l m (length l.chosen) vs) refl
+closed_stays : (l : Layout) (vs : List Known) (ms : List Octagon) → IsLayout l → AreValues l.types vs → AreOctagons l.packs ms → AreFactsIf l (with_closed l vs ms)
+closed_stays l vs ms h a o = by (bounded_values l.packs ms vs) refl
   where
-    last : (ws : List Known) → AreValues l ws → (p : Option (List Known)) → red_all ws ≡ p → AreFactsIf l (then_with p (λ us. let f : Facts = record { values = us; octagon = m } in Some f))
+    last : (ws : List Known) → AreValues l.types ws → (p : Option (List Known)) → red_all ws ≡ p → AreFactsIf l (then_with p (λ us. let f : Facts = record { values = us; octagons = ms } in Some f))
     last ws b None e = tt
-    last ws b (Some us) e = record { values = reds_values l ws us b e; vars = v; octagon = o }
+    last ws b (Some us) e = record { values = reds_values l.types ws us b e; octagons = o }
 
-    by : (p : Option (List Known)) → bounded_all l m (length l.chosen) vs ≡ p → AreFactsIf l (then_with p (λ ws. then_with (red_all ws) (λ us. let f : Facts = record { values = us; octagon = m } in Some f)))
+    by : (p : Option (List Known)) → bounded_values l.packs ms vs ≡ p → AreFactsIf l (then_with p (λ ws. then_with (red_all ws) (λ us. let f : Facts = record { values = us; octagons = ms } in Some f)))
     by None e = tt
-    by (Some ws) e = last ws (bounded_values l m (length l.chosen) vs ws h (omega arith) a e) (red_all ws) refl
+    by (Some ws) e = last ws (octagons_stay.bounded l.types l.packs ms vs ws h a e) (red_all ws) refl
 
 reductions : (l : Layout) (f : Option Facts) → IsLayout l → AreFactsIf l f → AreFactsIf l (reduced l f)
 reductions l None h a = tt
 reductions l (Some f) h a = by (red_all f.values) refl
   where
-    closed : (vs : List Known) → AreValues l vs → (o : Option Octagon) → closing_of (by_ranges l vs (length l.chosen) f.octagon) ≡ o → AreFactsIf l (then_with o (with_closed l vs))
+    closed : (vs : List Known) → AreValues l.types vs → (o : Option (List Octagon)) → closed_octagons l.packs vs f.octagons ≡ o → AreFactsIf l (then_with o (with_closed l vs))
     closed vs b None e = tt
-    closed vs b (Some m) e =
-        let octagon = by_ranges_octagon l vs (length l.chosen) f.octagon a.octagon (omega (arith, a.vars)) in
-        closed_stays l vs m h b (closing_right.vars (by_ranges l vs (length l.chosen) f.octagon) m octagon e ∙ by_ranges_vars l vs (length l.chosen) f.octagon ∙ a.vars) (closing_right.octagon (by_ranges l vs (length l.chosen) f.octagon) m octagon e)
+    closed vs b (Some ms) e = closed_stays l vs ms h b (octagons_stay.closed l.packs vs f.octagons ms a.octagons e)
 
-    by : (o : Option (List Known)) → red_all f.values ≡ o → AreFactsIf l (then_with o (λ vs. then_with (closing_of (by_ranges l vs (length l.chosen) f.octagon)) (with_closed l vs)))
+    by : (o : Option (List Known)) → red_all f.values ≡ o → AreFactsIf l (then_with o (λ vs. then_with (closed_octagons l.packs vs f.octagons) (with_closed l vs)))
     by None e = tt
-    by (Some vs) e = closed vs (reds_values l f.values vs a.values e) (closing_of (by_ranges l vs (length l.chosen) f.octagon)) refl
+    by (Some vs) e = closed vs (reds_values l.types f.values vs a.values e) (closed_octagons l.packs vs f.octagons) refl
 
 pub facts_stay : FactsStay
 facts_stay = record { joins = joins; widenings = widenings; narrowings = narrowings; reductions = reductions }

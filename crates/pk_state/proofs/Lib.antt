@@ -1,6 +1,5 @@
 pub mod Lists
 pub mod Reds
-pub mod Octs
 pub mod Bounded
 pub mod Sound
 pub mod Stays
@@ -8,8 +7,5 @@ pub mod Settled
 pub mod Held
 pub mod Tops
 pub mod Changed
-pub mod Places
 pub mod Loose
-pub mod Closings
-mod Points
 mod Rows

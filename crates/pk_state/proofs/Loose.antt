@@ -7,26 +7,20 @@ use Rattle.pk_value.specs.Known.{Known, red_known, joined}
 use Rattle.pk_value.specs.Laws.{IsTight}
 use Rattle.pk_value.proofs.Tight.{tight_is_reduced}
 use Rattle.pk_blocks.proofs.Merging.{merged_length}
-use Rattle.pk_state.specs.Layouts.{Layout}
-use Rattle.pk_state.specs.Facts.{known_at, AreValues, joined_values}
-use Rattle.pk_state.specs.Reduced.{with_first, red_all}
-use Rattle.pk_state.specs.Marks.{IsListed, AreMarked}
-use Rattle.pk_state.proofs.Bounded.{known_same, known_other}
+use Rattle.pk_ctypes.specs.declared.types.IntType.{IntType}
+use Rattle.pk_octagons.specs.Values.{known_at, AreValues, IsListed, AreMarked}
+use Rattle.pk_octagons.specs.Reduced.{with_first}
+use Rattle.pk_octagons.proofs.Lists.{known_same, known_other}
+use Rattle.pk_octagons.proofs.Bounding.{listed_left, listed_last}
+use Rattle.pk_state.specs.Facts.{joined_values}
+use Rattle.pk_state.specs.Reduced.{red_all}
 use Rattle.pk_state.proofs.Lists.{merged_at}
 
 -- ---- lists
 
-pub listed_left : (xs ys : List ℕ) (y : ℕ) → IsListed xs y → IsListed (xs ++ ys) y
-listed_left [] ys y h = absurd h
-listed_left (x ∷ xs) ys y (inl e) = inl e
-listed_left (x ∷ xs) ys y (inr h) = inr (listed_left xs ys y h)
-
 pub listed_right : (xs ys : List ℕ) (y : ℕ) → IsListed ys y → IsListed (xs ++ ys) y
 listed_right [] ys y h = h
 listed_right (x ∷ xs) ys y h = inr (listed_right xs ys y h)
-
-pub listed_last : (xs : List ℕ) (y : ℕ) → IsListed (xs ++ y ∷ []) y
-listed_last xs y = listed_right xs (y ∷ []) y (inl refl)
 
 -- what is left is the next one or among the rest
 pub listed_next : (xs : List ℕ) (k d y : ℕ) → k < length xs → IsListed (drop k xs) y → (slice_index_or xs k d ≡ y) ⊎ IsListed (drop (k + 1) xs) y
@@ -114,18 +108,6 @@ marked_loose vs loose more x v h l f y p = by (cases_eq y x)
     by (inl e) = inr (rw e l)
     by (inr n) = other n (h y (omega (arith, p, length-set vs x v)))
 
--- a value that is written is listed
-pub marked_put : (vs : List Known) (loose : List ℕ) (x : ℕ) (v : Known) → AreMarked vs loose → AreMarked (set vs x v) (loose ++ x ∷ [])
-marked_put vs loose x v h y p = by (cases_eq y x)
-  where
-    other : y ≢ x → IsTight (known_at vs y) ⊎ IsListed loose y → IsTight (known_at (set vs x v) y) ⊎ IsListed (loose ++ x ∷ []) y
-    other n (inl t) = inl (rw (known_other vs x y v n) t)
-    other n (inr l) = inr (listed_left loose (x ∷ []) y l)
-
-    by : (y ≡ x) ⊎ (y ≢ x) → IsTight (known_at (set vs x v) y) ⊎ IsListed (loose ++ x ∷ []) y
-    by (inl e) = inr (rw e (listed_last loose x))
-    by (inr n) = other n (h y (omega (arith, p, length-set vs x v)))
-
 -- those of a list that has those of another
 pub marked_in : (vs : List Known) (loose more : List ℕ) → ((y : ℕ) → y < length vs → IsListed loose y → IsListed more y) → AreMarked vs loose → AreMarked vs more
 marked_in vs loose more f h x p = by (h x p)
@@ -134,8 +116,8 @@ marked_in vs loose more f h x p = by (h x p)
     by (inl t) = inl t
     by (inr l) = inr (f x p l)
 
-pub marked_join : (l : Layout) (us vs : List Known) (a b all : List ℕ) → AreValues l us → AreValues l vs → ((y : ℕ) → y < length l.types → IsListed a y ⊎ IsListed b y → IsListed all y) → AreMarked us a → AreMarked vs b → AreMarked (joined_values us vs) all
-marked_join l us vs a b all h k f m n x p = by (m x here) (n x there)
+pub marked_join : (types : List IntType) (us vs : List Known) (a b all : List ℕ) → AreValues types us → AreValues types vs → ((y : ℕ) → y < length types → IsListed a y ⊎ IsListed b y → IsListed all y) → AreMarked us a → AreMarked vs b → AreMarked (joined_values us vs) all
+marked_join types us vs a b all h k f m n x p = by (m x here) (n x there)
   where
     same : length us ≡ length vs
     same = h.size ∙ sym k.size
@@ -154,8 +136,8 @@ marked_join l us vs a b all h k f m n x p = by (m x here) (n x there)
     by (inl t) (inr e) = listed (inr e)
     by (inr e) u = listed (inl e)
 
-pub marked_either : (l : Layout) (us vs : List Known) (a b c d all : List ℕ) (n : ℕ) → n ≡ length l.types → c ≡ a → d ≡ b → ((y : ℕ) → y < n → IsListed c y ⊎ IsListed d y → IsListed all y) → AreValues l us → AreValues l vs → AreMarked us a → AreMarked vs b → AreMarked (joined_values us vs) all
-marked_either l us vs a b c d all n size first second f h k m o = marked_join l us vs a b all h k (λ y p e. f y (omega (arith, p, size)) (by y e)) m o
+pub marked_either : (types : List IntType) (us vs : List Known) (a b c d all : List ℕ) (n : ℕ) → n ≡ length types → c ≡ a → d ≡ b → ((y : ℕ) → y < n → IsListed c y ⊎ IsListed d y → IsListed all y) → AreValues types us → AreValues types vs → AreMarked us a → AreMarked vs b → AreMarked (joined_values us vs) all
+marked_either types us vs a b c d all n size first second f h k m o = marked_join types us vs a b all h k (λ y p e. f y (omega (arith, p, size)) (by y e)) m o
   where
     by : (y : ℕ) → IsListed a y ⊎ IsListed b y → IsListed c y ⊎ IsListed d y
     by y (inl e) = inl (subst (λ zs. IsListed zs y) (sym first) e)
@@ -230,8 +212,8 @@ halfway_stop olds vs left x v h p e n =
     let here : x < length olds = omega (arith, p, h.size) in
     sym (red_all_none olds x here (sym (h.same x here) ∙ ap red_known e ∙ sym n))
 
-pub halfway_end : (l : Layout) (olds vs : List Known) (left : List ℕ) → left ≡ [] → AreValues l vs → AreHalfway olds vs left → Some vs ≡ red_all olds
-halfway_end l olds vs left none a h = sym (red_all_some olds vs h.size (λ y p. sym (h.same y p) ∙ own y (omega (arith, p, h.size)) (h.marked y (omega (arith, p, h.size)))))
+pub halfway_end : (types : List IntType) (olds vs : List Known) (left : List ℕ) → left ≡ [] → AreValues types vs → AreHalfway olds vs left → Some vs ≡ red_all olds
+halfway_end types olds vs left none a h = sym (red_all_some olds vs h.size (λ y p. sym (h.same y p) ∙ own y (omega (arith, p, h.size)) (h.marked y (omega (arith, p, h.size)))))
   where
     own : (y : ℕ) → y < length vs → IsTight (known_at vs y) ⊎ IsListed left y → red_known (known_at vs y) ≡ Some (known_at vs y)
     own y p (inl t) = tight_is_reduced.again (known_at vs y) (a.classes y p).from t

@@ -9,8 +9,9 @@ use Rattle.pk_value.specs.Reduction.{red}
 use Rattle.pk_value.specs.Known.{Known, IsOf, known_of, red_known}
 use Rattle.pk_value.proofs.Reducing.{exact as reduction}
 use Rattle.pk_value.proofs.Sound.{red_from}
-use Rattle.pk_state.specs.Facts.{known_at}
-use Rattle.pk_state.specs.Reduced.{with_first, red_all}
+use Rattle.pk_octagons.specs.Values.{known_at}
+use Rattle.pk_octagons.specs.Reduced.{with_first}
+use Rattle.pk_state.specs.Reduced.{red_all}
 use Rattle.pk_state.specs.Members.{AreOf}
 
 -- the moduli are 0 or more

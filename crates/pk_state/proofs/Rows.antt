@@ -5,9 +5,10 @@ use Rattle.std.proofs.lemmas.Bool.{cases_lt}
 use Rattle.std.proofs.lemmas.Option.{slice_get-get_or}
 use Rattle.pk_ctypes.specs.declared.types.IntType.TheVariants.{Int}
 use Rattle.pk_value.specs.Known.{Known, any_of}
-use Rattle.pk_state.specs.Facts.{Facts, known_at}
+use Rattle.pk_octagons.specs.Values.{known_at}
+use Rattle.pk_state.specs.Facts.{Facts}
 use Rattle.pk_state.specs.Changes.{known_in, AreAlikeAt}
-use Rattle.pk_state.proofs.Stays.{get_known}
+use Rattle.pk_octagons.proofs.Lists.{get_known}
 
 -- a row has sixteen values of a list, from its place on
 abbrev pub IsRow : List Known → List Known → ℕ → Type 0

@@ -12,13 +12,10 @@ use Rattle.pk_interval.proofs.Keeping.{stays}
 use Rattle.pk_congr.proofs.Numbers.{every_member}
 use Rattle.pk_value.specs.Known.{Known, any_of}
 use Rattle.pk_value.specs.Laws.{IsTight}
-use Rattle.pk_octmat.specs.Octagon.{bar, top_bound}
-use Rattle.pk_octmat.proofs.Matrices.{top_same, top_turned, top_near}
-use Rattle.pk_octmat.proofs.Tabled.{octagon_from}
-use Rattle.pk_state.specs.Layouts.{Layout, IsLayout, type_at}
-use Rattle.pk_state.specs.Facts.{known_at, AreFacts, top_facts}
-use Rattle.pk_state.specs.Marks.{AreMarked}
-use Rattle.pk_state.specs.Changes.{IsValue}
+use Rattle.pk_octagons.specs.Values.{type_at, known_at, IsValue, AreMarked}
+use Rattle.pk_octagons.proofs.Stay.{octagons_stay}
+use Rattle.pk_state.specs.Layouts.{Layout, IsLayout}
+use Rattle.pk_state.specs.Facts.{AreFacts, top_facts}
 use Rattle.pk_state.proofs.Held.{every_reduced, values_from}
 
 pub top_set : (ts : List IntType) (k : ℕ) → k < length ts
@@ -52,13 +49,6 @@ top_marked vs ts same x p = inl (subst IsTight (sym (ap (λ (us : List Known). k
 
 pub top_stays : (l : Layout) → IsLayout l → AreFacts l (top_facts l)
 top_stays l h = record {
-  values = values_from l (map any_of l.types) (length-map l.types any_of) (λ x p. subst (IsValue (type_at l x)) (sym (get_or-map any_of l.types x Int)) (any_value (type_at l x)));
-  vars = refl;
-  octagon =
-      octagon_from (length l.chosen) top_bound (record {
-        few = h.few;
-        zero = λ i id. top_same i;
-        turned = λ i j id jd. top_turned i j (bar j) (bar i) refl refl;
-        near = λ i j id jd. top_near i j;
-      });
+  values = values_from l.types (map any_of l.types) (length-map l.types any_of) (λ x p. subst (IsValue (type_at l.types x)) (sym (get_or-map any_of l.types x Int)) (any_value (type_at l.types x)));
+  octagons = octagons_stay.top (length l.types) l.packs h;
 }

@@ -4,4 +4,3 @@ pub mod Marks
 pub mod Reduced
 pub mod Members
 pub mod Changes
-pub mod Turns

@@ -1,20 +1,13 @@
 -- The stores of a state (the concretisation), and what the operations mean for them.
-use Rattle.std.specs.Prelude.{◌≡◌, ◌⊎◌, ℕ, ◌<◌, ℤ, pos, List, length, slice_get, Option, Some, None}
+use Rattle.std.specs.Prelude.{◌≡◌, ◌⊎◌, ℕ, ◌<◌, ℤ, List, length, Option, Some, None}
 use Rattle.pk_graph.specs.Steps.{number_at}
 use Rattle.pk_graph.specs.Stores.{Stored, numbers_of, number_of}
 use Rattle.pk_value.specs.Known.{Known, IsOf}
-use Rattle.pk_octmat.specs.Octagon.{entry, Meets}
-use Rattle.pk_state.specs.Layouts.{Layout, IsLayout, chosen_at}
-use Rattle.pk_state.specs.Facts.{Facts, known_at, AreFactsIf, joined, widened, narrowed, IsBelow}
+use Rattle.pk_octagons.specs.Values.{known_at}
+use Rattle.pk_octagons.specs.Members.{IsChosen, MeetAll}
+use Rattle.pk_state.specs.Layouts.{Layout, IsLayout}
+use Rattle.pk_state.specs.Facts.{Facts, AreFactsIf, joined, widened, narrowed, IsBelow}
 use Rattle.pk_state.specs.Reduced.{reduced}
-
-abbrev pub number_if : Stored → Option ℕ → ℤ
-number_if s None = pos 0
-number_if s (Some x) = number_of s x
-
--- the numbers of the octagon's variables
-abbrev pub selected : List ℕ → Stored → ℕ → ℤ
-selected chosen s k = number_if s (slice_get chosen k)
 
 -- each number of each variable is one that is known of it
 pub record AreOf (vs : List Known) (s : Stored) : Type 0 where
@@ -22,11 +15,11 @@ pub record AreOf (vs : List Known) (s : Stored) : Type 0 where
       IsOf (known_at vs x) (number_at (numbers_of s x) i)
   pub some : (x : ℕ) → x < length vs → 0 < length (numbers_of s x)
 
--- that, the octagon's variables are scalars, and their numbers meet its bounds
+-- that, the octagons' variables are scalars, and their numbers meet all octagons
 pub record IsStoreOf (l : Layout) (f : Facts) (s : Stored) : Type 0 where
   pub values : AreOf f.values s
-  pub scalars : (k : ℕ) → k < length l.chosen → length (numbers_of s (chosen_at l k)) ≡ 1
-  pub octagon : Meets (entry f.octagon) (selected l.chosen s)
+  pub scalars : (x : ℕ) → IsChosen l.packs x → length (numbers_of s x) ≡ 1
+  pub octagons : MeetAll l.packs f.octagons (number_of s)
 
 abbrev pub Member : Layout → Option Facts → Stored → Type 0
 Member l None s = ⊥

@@ -1,30 +1,28 @@
 // Reading and writing what a state knows.
 
-ghost use Rattle.std.specs.Prelude.{◌≡◌, ◌<◌, ◌*◌, true, IfOk, IfSome, length, None};
-ghost use Rattle.pk_octops.specs.Guards.{IsGuard};
-ghost use Rattle.pk_state.specs.Layouts.{type_at, is_spread, slot_of, place_in};
-ghost use Rattle.pk_state.specs.Facts.{AreFactsIf};
+ghost use Rattle.std.specs.Prelude.{◌≡◌, ◌<◌, ◌*◌, ◌^◌, true, IfOk, IfSome, length, None};
 ghost use Rattle.pk_value.specs.Laws.{IsTight};
-ghost use Rattle.pk_state.specs.Changes.{IsValue, IsApart, known_in, bound_in, with_known, with_bounds, assigned_in, guarded_in};
+ghost use Rattle.pk_octagons.specs.Packs.{pack_at, is_chosen};
+ghost use Rattle.pk_octagons.specs.Values.{type_at, IsValue};
+ghost use Rattle.pk_octagons.specs.Changes.{AreTerms};
+ghost use Rattle.pk_state.specs.Layouts.{is_spread, slot_of};
+ghost use Rattle.pk_state.specs.Facts.{AreFactsIf};
+ghost use Rattle.pk_state.specs.Changes.{IsApart, known_in, bound_in, entry_in, with_known, with_bounds, assigned_in, guarded_in};
 
 use crate::facts::Facts;
 use crate::frame::Frame;
 use crate::marks::{is_tight, put_marked};
-use crate::octagons::{is_obeyed, shared};
 use crate::state::State;
 use pk_ctypes::IntType;
-use pk_octmarks::Mark;
-use pk_octmat::{Matrix, Shape};
-use pk_octops::{assign, guard};
+use pk_octmat::Matrix;
 use pk_value::Value;
 use std::alloc::{AllocError, Global};
-use std::sync::Arc;
 
 fn value_if(facts: &Option<Facts>, x: usize, frame: &Frame) -> Option<Value>
     requires facts { AreFactsIf frame.now facts.now }
     requires place { x < length frame.now.types }
     ensures value { result ≡ known_in facts.now x }
-    ensures inside { IfSome result (IsValue (type_at frame.now x)) }
+    ensures inside { IfSome result (IsValue (type_at frame.now.types x)) }
 {
     let _ = frame;
     match facts {
@@ -56,29 +54,32 @@ fn write_if(
             put_marked(alloc, &mut values, &mut loose, x, value, tight)?;
             Ok(Some(Facts {
                 values,
-                octagon: facts.octagon,
+                octagons: facts.octagons,
                 loose,
-                mark: facts.mark,
             }))
         }
     }
 }
 
-// Another octagon, of which nothing else is known.
+// Another octagon in place of one, of which nothing else is known.
 fn bounds_if(
     alloc: Global,
     facts: Option<Facts>,
+    p: usize,
     octagon: Matrix,
+    frame: &Frame,
 ) -> Result<Option<Facts>, AllocError>
-    ensures { IfOk result (λ f. f ≡ with_bounds facts octagon) }
+    requires facts { AreFactsIf frame.now facts }
+    requires pack { p < length frame.now.packs }
+    ensures { IfOk result (λ f. f ≡ with_bounds facts p octagon) }
 {
+    let _ = frame;
     match facts {
         None => Ok(None),
         Some(facts) => Ok(Some(Facts {
-            octagon: Arc::new(alloc, octagon)?,
             values: facts.values,
+            octagons: facts.octagons.with_octagon(alloc, p, octagon)?,
             loose: facts.loose,
-            mark: Mark::Unknown,
         })),
     }
 }
@@ -95,101 +96,103 @@ fn is_known(facts: &Option<Facts>, x: usize, value: &Value, frame: &Frame) -> bo
     }
 }
 
-// Whether facts that are settled or not stay so where a value is written: where it is tight, and the octagon isn't over its variable.
+// Whether facts that are settled or not stay so where a value is written: where it is tight, and no octagon is over its variable.
 fn stays_settled(settled: bool, tight: bool, x: usize, frame: &Frame) -> bool
     ensures { result ≡ true → (settled ≡ true) × (tight ≡ true) × IsApart frame.now x }
 {
-    settled && tight && frame.place(x).is_none()
+    settled && tight && !frame.packs().is_chosen(x)
 }
 
 fn assign_if(
     alloc: Global,
     facts: Option<Facts>,
-    k: u32,
-    term: Option<u32>,
+    x: usize,
+    term: Option<usize>,
     c: i128,
+    over: &[usize],
     frame: &Frame,
 ) -> Result<Option<Facts>, AllocError>
-    requires facts { AreFactsIf frame.now facts }
-    requires variable { k < length frame.now.chosen }
-    requires term { IfSome term (λ t. t < 2 * length frame.now.chosen) }
-    ensures { IfOk result (λ f. f ≡ assigned_in facts k term c) }
+    requires { AreFactsIf frame.now facts }
+    ensures { IfOk result (λ f. f ≡ assigned_in frame.now facts x term c over.now) }
 {
-    let _ = frame;
     match facts {
         None => Ok(None),
-        Some(facts) => {
-            let m = assign(&facts.octagon, k, term, c)?;
-            let mark = facts.mark.assigned(&facts.octagon, k, term);
-            Ok(Some(Facts {
-                octagon: shared(alloc, &facts.octagon, m)?,
-                values: facts.values,
-                loose: facts.loose,
-                mark,
-            }))
-        }
+        Some(facts) => Ok(Some(Facts {
+            values: facts.values,
+            octagons: facts
+                .octagons
+                .assigned(alloc, frame.packs(), x, term, c, over)?,
+            loose: facts.loose,
+        })),
     }
 }
 
 fn guard_if(
     alloc: Global,
     facts: Option<Facts>,
-    a: Option<u32>,
-    b: Option<u32>,
+    a: Option<usize>,
+    b: Option<usize>,
     c: i128,
+    over: &[usize],
     frame: &Frame,
 ) -> Result<Option<Facts>, AllocError>
     requires facts { AreFactsIf frame.now facts }
-    requires terms { IsGuard (length frame.now.chosen) a b }
-    ensures { IfOk result (λ f. f ≡ guarded_in facts a b c) }
+    requires terms { AreTerms a b }
+    ensures { IfOk result (λ f. f ≡ guarded_in frame.now facts a b c over.now) }
 {
-    let _ = frame;
     match facts {
         None => Ok(None),
-        Some(facts) => {
-            let mut m = facts.octagon.copy()?;
-            match guard(&mut m, a, b, c) {
-                Shape::Empty => Ok(None),
-                Shape::Kept => Ok(Some(Facts {
-                    mark: facts.mark.guarded(a, b),
-                    octagon: Arc::new(alloc, m)?,
-                    values: facts.values,
-                    loose: facts.loose,
-                })),
-            }
-        }
+        Some(facts) => match facts.octagons.guarded(alloc, frame.packs(), a, b, c, over)? {
+            None => Ok(None),
+            Some(octagons) => Ok(Some(Facts {
+                values: facts.values,
+                octagons,
+                loose: facts.loose,
+            })),
+        },
     }
 }
 
 // Whether a guard changes nothing.
 fn is_obeyed_by(
     facts: &Option<Facts>,
-    a: Option<u32>,
-    b: Option<u32>,
+    a: Option<usize>,
+    b: Option<usize>,
     c: i128,
+    over: &[usize],
     frame: &Frame,
 ) -> bool
     requires facts { AreFactsIf frame.now facts.now }
-    requires terms { IsGuard (length frame.now.chosen) a b }
-    ensures { result ≡ true → guarded_in facts.now a b c ≡ facts.now }
+    requires terms { AreTerms a b }
+    ensures { result ≡ true → guarded_in frame.now facts.now a b c over.now ≡ facts.now }
 {
-    let _ = frame;
     match facts {
         None => true,
-        Some(facts) => is_obeyed(&facts.octagon, a, b, c),
+        Some(facts) => facts.octagons.obey(frame.packs(), a, b, c, over),
     }
 }
 
-fn bound_if(facts: &Option<Facts>, i: u32, j: u32, frame: &Frame) -> Option<i128>
+fn bound_if(facts: &Option<Facts>, i: usize, j: usize, frame: &Frame) -> Option<i128>
+    requires { AreFactsIf frame.now facts.now }
+    ensures { result ≡ bound_in frame.now facts.now i j }
+{
+    match facts {
+        None => None,
+        Some(facts) => facts.octagons.least_bound(frame.packs(), i, j),
+    }
+}
+
+fn entry_if(facts: &Option<Facts>, p: usize, i: u32, j: u32, frame: &Frame) -> Option<i128>
     requires facts { AreFactsIf frame.now facts.now }
-    requires row { i < 2 * length frame.now.chosen }
-    requires column { j < 2 * length frame.now.chosen }
-    ensures { result ≡ bound_in facts.now i j }
+    requires pack { p < length frame.now.packs }
+    requires row { i < 2 * length (pack_at frame.now.packs p) }
+    requires column { j < 2 * length (pack_at frame.now.packs p) }
+    ensures { result ≡ entry_in facts.now p i j }
 {
     let _ = frame;
     match facts {
         None => None,
-        Some(facts) => facts.octagon.get(i, j),
+        Some(facts) => facts.octagons.bound(p, i, j),
     }
 }
 
@@ -198,7 +201,7 @@ impl<'f> State<'f> {
     pub fn value(&self, x: usize) -> Option<Value>
         requires { x < length self.now.layout.types }
         ensures value { result ≡ known_in self.now.facts x }
-        ensures inside { IfSome result (IsValue (type_at self.now.layout x)) }
+        ensures inside { IfSome result (IsValue (type_at self.now.layout.types x)) }
     {
         value_if(&self.facts, x, self.frame)
     }
@@ -206,7 +209,7 @@ impl<'f> State<'f> {
     /// The type of a variable.
     pub fn int_type(&self, x: usize) -> IntType
         requires { x < length self.now.layout.types }
-        ensures { result ≡ type_at self.now.layout x }
+        ensures { result ≡ type_at self.now.layout.types x }
     {
         self.frame.int_type(x)
     }
@@ -228,21 +231,29 @@ impl<'f> State<'f> {
         self.frame.slot(x, i)
     }
 
-    /// The place of a variable in the octagon, if that is over it.
-    pub fn place(&self, x: usize) -> Option<u32>
-        ensures value { result ≡ place_in self.now.layout.chosen x }
-        ensures there { IfSome result (λ k. k < length self.now.layout.chosen) }
+    /// Whether an octagon is over a variable.
+    pub fn is_chosen(&self, x: usize) -> bool
+        ensures value { result ≡ is_chosen self.now.layout.packs x }
+        ensures few { result ≡ true → x < 2 ^ 63 }
     {
-        self.frame.place(x)
+        self.frame.packs().is_chosen(x)
     }
 
-    /// The octagon's bound on V(j) - V(i), if there is one. Place 2k is the variable of place k, place 2k + 1 its negative.
-    pub fn bound(&self, i: u32, j: u32) -> Option<i128>
-        requires row { i < 2 * length self.now.layout.chosen }
-        requires column { j < 2 * length self.now.layout.chosen }
-        ensures { result ≡ bound_in self.now.facts i j }
+    /// The least bound on V(j) - V(i) of the octagons that are over both variables, if there is one: V(2x) is variable x, V(2x + 1) its negative.
+    pub fn bound(&self, i: usize, j: usize) -> Option<i128>
+        ensures { result ≡ bound_in self.now.layout self.now.facts i j }
     {
         bound_if(&self.facts, i, j, self.frame)
+    }
+
+    /// The bound of octagon p on V(j) - V(i), if there is one, by its own places: place 2k is its variable k, place 2k + 1 the negative.
+    pub fn entry(&self, p: usize, i: u32, j: u32) -> Option<i128>
+        requires pack { p < length self.now.layout.packs }
+        requires row { i < 2 * length (pack_at self.now.layout.packs p) }
+        requires column { j < 2 * length (pack_at self.now.layout.packs p) }
+        ensures { result ≡ entry_in self.now.facts p i j }
+    {
+        entry_if(&self.facts, p, i, j, self.frame)
     }
 
     /// No run comes there.
@@ -255,7 +266,7 @@ impl<'f> State<'f> {
     /// The same, but for what is known of a variable.
     pub fn with_value(self, alloc: Global, x: usize, value: Value) -> Result<State<'f>, AllocError>
         requires place { x < length self.layout.types }
-        requires value { IsValue (type_at self.layout x) value }
+        requires value { IsValue (type_at self.layout.types x) value }
         ensures { IfOk result
             (λ s. s ≡ record { layout = self.entry.layout; facts = with_known self.entry.facts x value }) }
     {
@@ -272,14 +283,20 @@ impl<'f> State<'f> {
         })
     }
 
-    /// The same, but for the octagon.
-    pub fn with_bounds(self, alloc: Global, octagon: Matrix) -> Result<State<'f>, AllocError>
-        requires { octagon.vars ≡ length self.layout.chosen }
+    /// The same, but for one octagon.
+    pub fn with_bounds(
+        self,
+        alloc: Global,
+        p: usize,
+        octagon: Matrix,
+    ) -> Result<State<'f>, AllocError>
+        requires pack { p < length self.layout.packs }
+        requires vars { octagon.vars ≡ length (pack_at self.layout.packs p) }
         ensures { IfOk result
-            (λ s. s ≡ record { layout = self.entry.layout; facts = with_bounds self.entry.facts octagon }) }
+            (λ s. s ≡ record { layout = self.entry.layout; facts = with_bounds self.entry.facts p octagon }) }
     {
         octagon.is_octagon();
-        let facts = bounds_if(alloc, self.facts, octagon)?;
+        let facts = bounds_if(alloc, self.facts, p, octagon, self.frame)?;
         Ok(State {
             frame: self.frame,
             facts,
@@ -287,20 +304,25 @@ impl<'f> State<'f> {
         })
     }
 
-    /// The octagon's variable k gets V(term) + c, or any number where there is no term. Place 2k is the variable, place 2k + 1 its negative.
+    /// Variable x gets V(term) + c, or any number where there is no term, in each octagon that is over it, and any number in one that isn't over each variable of `over`, which are
+    /// those that are read: V(2y) is variable y, V(2y + 1) its negative.
     pub fn with_assignment(
         self,
         alloc: Global,
-        k: u32,
-        term: Option<u32>,
+        x: usize,
+        term: Option<usize>,
         c: i128,
+        over: &[usize],
     ) -> Result<State<'f>, AllocError>
-        requires variable { k < length self.layout.chosen }
-        requires term { IfSome term (λ t. t < 2 * length self.layout.chosen) }
-        ensures { IfOk result
-            (λ s. s ≡ record { layout = self.entry.layout; facts = assigned_in self.entry.facts k term c }) }
+        ensures { IfOk result (λ s. s ≡ record {
+          layout = self.entry.layout;
+          facts = assigned_in self.entry.layout self.entry.facts x term c over.now;
+        }) }
     {
-        let facts = assign_if(alloc, self.facts, k, term, c, self.frame)?;
+        if !self.frame.packs().is_chosen(x) {
+            return Ok(self);
+        }
+        let facts = assign_if(alloc, self.facts, x, term, c, over, self.frame)?;
         Ok(State {
             frame: self.frame,
             facts,
@@ -308,22 +330,25 @@ impl<'f> State<'f> {
         })
     }
 
-    /// Keeps the stores with V(a) + V(b) <= c, where terms that are none are left out.
+    /// Keeps the stores with V(a) + V(b) <= c, where terms that are none are left out: in each octagon that is over each variable of `over`, which are those that are read.
     pub fn with_guard(
         self,
         alloc: Global,
-        a: Option<u32>,
-        b: Option<u32>,
+        a: Option<usize>,
+        b: Option<usize>,
         c: i128,
+        over: &[usize],
     ) -> Result<State<'f>, AllocError>
-        requires { IsGuard (length self.layout.chosen) a b }
-        ensures { IfOk result
-            (λ s. s ≡ record { layout = self.entry.layout; facts = guarded_in self.entry.facts a b c }) }
+        requires { AreTerms a b }
+        ensures { IfOk result (λ s. s ≡ record {
+          layout = self.entry.layout;
+          facts = guarded_in self.entry.layout self.entry.facts a b c over.now;
+        }) }
     {
-        if is_obeyed_by(&self.facts, a, b, c, self.frame) {
+        if is_obeyed_by(&self.facts, a, b, c, over, self.frame) {
             return Ok(self);
         }
-        let facts = guard_if(alloc, self.facts, a, b, c, self.frame)?;
+        let facts = guard_if(alloc, self.facts, a, b, c, over, self.frame)?;
         Ok(State {
             frame: self.frame,
             facts,

@@ -1,17 +1,20 @@
 // The variables that a state speaks of.
 
-ghost use Rattle.std.specs.Prelude.{◌≡◌, ◌<◌, length, IfSome};
-ghost use Rattle.pk_state.specs.Layouts.{Layout, IsLayout, type_at, chosen_at, is_spread, slot_of, place_in};
+ghost use Rattle.std.specs.Prelude.{◌≡◌, ◌<◌, length, IfOk};
+ghost use Rattle.pk_octagons.specs.Values.{type_at};
+ghost use Rattle.pk_state.specs.Layouts.{Layout, IsLayout, is_spread, slot_of};
 
 use pk_ctypes::IntType;
+use pk_octagons::{Pack, PlacedPacks};
+use std::alloc::{AllocError, Global};
 use std::marker::Model;
 
-/// The type of each slot, the variables that the octagon is over, and of each variable whose numbers have a slot each where those
+/// The type of each slot, the variables that each octagon is over, and of each variable whose numbers have a slot each where those
 /// behind the first begin. States share it.
 #[derive(Drop)]
 pub struct Frame {
     types: Vec<IntType>,
-    chosen: Vec<usize>,
+    packs: PlacedPacks,
     further: Vec<Option<usize>>,
 }
 
@@ -20,24 +23,30 @@ impl Model for Frame {
 
     ghost Value = { Layout };
 
-    ghost view = { λ f. record { types = f.types.items; chosen = f.chosen.items; further = f.further.items } };
+    ghost view = { λ f. record { types = f.types.items; packs = f.packs; further = f.further.items } };
 
-    ghost invariant = { λ f.
-        IsLayout (record { types = f.types.items; chosen = f.chosen.items; further = f.further.items }) };
+    ghost invariant = { λ f. IsLayout (record { types = f.types.items; packs = f.packs; further = f.further.items }) };
 }
 
 impl Frame {
-    /// The types of the slots by number, the numbers of the variables that the octagon is over, each once, and of each variable whose
+    /// The types of the slots by number, the numbers of the variables that each octagon is over, and of each variable whose
     /// numbers have a slot each where those behind the first begin.
-    pub fn new(types: Vec<IntType>, chosen: Vec<usize>, further: Vec<Option<usize>>) -> Frame
-        requires { IsLayout (record { types = types.items; chosen = chosen.items; further = further.items }) }
-        ensures { result ≡ record { types = types.items; chosen = chosen.items; further = further.items } }
+    pub fn new(
+        alloc: Global,
+        types: Vec<IntType>,
+        packs: Vec<Pack>,
+        further: Vec<Option<usize>>,
+    ) -> Result<Frame, AllocError>
+        requires { IsLayout (record { types = types.items; packs = packs.items; further = further.items }) }
+        ensures { IfOk result
+            (λ f. f ≡ record { types = types.items; packs = packs.items; further = further.items }) }
     {
-        Frame {
+        let packs = PlacedPacks::new(alloc, types.len(), packs)?;
+        Ok(Frame {
             types,
-            chosen,
+            packs,
             further,
-        }
+        })
     }
 
     /// How many slots there are.
@@ -47,11 +56,11 @@ impl Frame {
         self.types.len()
     }
 
-    /// How many variables the octagon is over.
-    pub fn octagon_len(&self) -> usize
-        ensures { result ≡ length self.now.chosen }
+    /// The variables that each octagon is over, and the places of each variable.
+    pub fn packs(&self) -> &PlacedPacks
+        ensures { result.now ≡ self.now.packs }
     {
-        self.chosen.len()
+        &self.packs
     }
 
     /// Whether each number of a variable has a slot.
@@ -77,38 +86,15 @@ impl Frame {
     /// The type of a slot.
     pub fn int_type(&self, x: usize) -> IntType
         requires { x < length self.now.types }
-        ensures { result ≡ type_at self.now x }
+        ensures { result ≡ type_at self.now.types x }
     {
         self.types[x]
     }
 
-    /// The variable of a place of the octagon.
-    pub fn chosen(&self, k: usize) -> usize
-        requires { k < length self.now.chosen }
-        ensures value { result ≡ chosen_at self.now k }
-        ensures there { result < length self.now.types }
-    {
-        self.chosen[k]
-    }
-
-    /// The place of a variable in the octagon, if that is over it.
-    pub fn place(&self, x: usize) -> Option<u32>
-        ensures value { result ≡ place_in self.now.chosen x }
-        ensures there { IfSome result (λ k. k < length self.now.chosen) }
-    {
-        self.is_layout();
-        for k in 0..self.octagon_len() {
-            if self.chosen(k) == x {
-                return Some(k as u32);
-            }
-        }
-        None
-    }
-
-    /// What every frame is: the octagon's variables are there, each once, and their places are counted in 32 bits.
+    /// What every frame is: the octagons' variables are there, each once in each, and their places are counted in 32 bits.
     pub fn is_layout(&self)
         ensures { IsLayout self.now }
     {
-        let _ = &self.chosen;
+        let _ = &self.packs;
     }
 }

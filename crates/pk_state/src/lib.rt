@@ -1,4 +1,4 @@
-//! Abstract states: what is known of each variable, and an octagon over some of them.
+//! Abstract states: what is known of each variable, and octagons over some of them.
 #![tactic(auto)]
 
 mod changes;
@@ -6,9 +6,7 @@ mod facts;
 mod frame;
 mod laws;
 mod marks;
-mod octagons;
 mod state;
-mod turns;
 mod values;
 
 pub use frame::Frame;

@@ -2,9 +2,7 @@
 
 ghost use Rattle.std.specs.Prelude.{◌≡◌, ◌≢◌, ◌⊎◌, ◌<◌, ℕ, true, [], IfOk, OnOk, IfSome, length, slice_set, slice_index_or};
 ghost use Rattle.pk_value.specs.Laws.{IsTight};
-ghost use Rattle.pk_state.specs.Facts.{known_at};
-ghost use Rattle.pk_state.specs.Changes.{IsValue};
-ghost use Rattle.pk_state.specs.Marks.{IsListed, AreMarked};
+ghost use Rattle.pk_octagons.specs.Values.{IsValue, IsListed, AreMarked};
 
 use pk_blocks::Blocks;
 use pk_ctypes::IntType;
@@ -51,30 +49,6 @@ pub(crate) fn is_none_listed(loose: &[usize]) -> bool
     ensures { result ≡ true → loose.now ≡ [] }
 {
     matches!(loose, [])
-}
-
-/// Writes a value that may be loose, if it isn't there.
-pub(crate) fn put_loose(
-    alloc: Global,
-    values: &mut Blocks<Value>,
-    loose: &mut Vec<usize>,
-    x: usize,
-    old: &Value,
-    new: Value,
-) -> Result<(), AllocError>
-    requires place { x < length values.old }
-    requires old { known_at values.old x ≡ old.now }
-    requires marked { AreMarked values.old loose.old.items }
-    ensures value { OnOk result (values.new ≡ slice_set values.old x new) }
-    ensures marked { OnOk result (AreMarked values.new loose.new.items) }
-    ensures still { OnOk result (loose.new.items ≡ [] → (loose.old.items ≡ []) × (new ≡ old.now)) }
-{
-    if new.equals(old) {
-        return Ok(());
-    }
-    values.set(alloc, x, new)?;
-    loose.push(x)?;
-    Ok(())
 }
 
 /// Whether a value is its own reduction.

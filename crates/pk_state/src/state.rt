@@ -17,7 +17,7 @@ use crate::frame::Frame;
 use std::alloc::{AllocError, Global};
 use std::marker::Model;
 
-/// What is known at a point of a program: a value of each variable and an octagon, or that no run comes there. States borrow their frame, and share what they
+/// What is known at a point of a program: a value of each variable and an octagon for each pack, or that no run comes there. States borrow their frame, and share what they
 /// have in common.
 #[derive(Drop)]
 pub struct State<'f> {

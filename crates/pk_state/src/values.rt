@@ -1,22 +1,18 @@
-// The values of all variables: joined, widened, narrowed, compared, reduced, bounded.
+// The values of all variables: joined, widened, narrowed, compared, reduced.
 
-ghost use Rattle.std.specs.Prelude.{◌≡◌, ◌↔◌, ◌<◌, ◌≤◌, ◌+◌, ◌/◌, ◌%◌, ◌^◌, ℕ, true, IfOk, OnOk, Some, [], length, slice_set};
+ghost use Rattle.std.specs.Prelude.{◌≡◌, ◌↔◌, ◌<◌, ◌≤◌, ◌+◌, ◌/◌, ◌%◌, ◌^◌, ℕ, true, IfOk, OnOk, [], length, slice_set};
 ghost use Rattle.std.specs.List.Sorted.{IsSorted};
 ghost use Rattle.std.specs.Ordering.{int_cmp};
 ghost use Rattle.pk_value.specs.Known.{is_within};
-ghost use Rattle.pk_state.specs.Layouts.{chosen_at};
-ghost use Rattle.pk_state.specs.Facts.{known_at, AreValues, joined_values, widened_values, narrowed_values};
-ghost use Rattle.pk_state.specs.Marks.{AreMarked};
-ghost use Rattle.pk_state.specs.Reduced.{red_all, with_range, raised_low, lowered_high, bounded_by, bounded_all, kept_if};
-ghost use Rattle.pk_interval.specs.Ranges.{range_from};
+ghost use Rattle.pk_octagons.specs.Values.{known_at, AreValues, AreMarked};
+ghost use Rattle.pk_octagons.specs.Reduced.{kept_if};
+ghost use Rattle.pk_state.specs.Facts.{joined_values, widened_values, narrowed_values};
+ghost use Rattle.pk_state.specs.Reduced.{red_all};
 
 use crate::frame::Frame;
-use crate::marks::put_loose;
 use pk_blocks::{Blocks, Merge};
 use pk_congr::reduced_law;
-use pk_interval::{Interval, between};
-use pk_octmat::Matrix;
-use pk_octops::bounds;
+use pk_octagons::put_loose;
 use pk_value::Value;
 use std::alloc::{AllocError, Global};
 
@@ -77,8 +73,8 @@ pub(crate) fn widen_values(
     thresholds: &[i128],
     loose: &mut Vec<usize>,
 ) -> Result<Blocks<Value>, AllocError>
-    requires held { AreValues frame.now held.now }
-    requires next { AreValues frame.now next.now }
+    requires held { AreValues frame.now.types held.now }
+    requires next { AreValues frame.now.types next.now }
     requires rising { IsSorted int_cmp thresholds.now }
     requires marked { AreMarked held.now loose.old.items }
     ensures value { IfOk result (λ v. v ≡ widened_values frame.now thresholds.now held.now next.now) }
@@ -101,8 +97,8 @@ pub(crate) fn narrow_values(
     frame: &Frame,
     loose: &mut Vec<usize>,
 ) -> Result<Blocks<Value>, AllocError>
-    requires held { AreValues frame.now held.now }
-    requires next { AreValues frame.now next.now }
+    requires held { AreValues frame.now.types held.now }
+    requires next { AreValues frame.now.types next.now }
     requires marked { AreMarked held.now loose.old.items }
     ensures value { IfOk result (λ v. v ≡ narrowed_values frame.now held.now next.now) }
     ensures marked { IfOk result (λ v. AreMarked v loose.new.items) }
@@ -202,10 +198,10 @@ pub(crate) fn reduce_values(
     loose: &[usize],
     frame: &Frame,
 ) -> Result<bool, AllocError>
-    requires values { AreValues frame.now values.old }
+    requires values { AreValues frame.now.types values.old }
     requires marked { AreMarked values.old loose.now }
     ensures value { IfOk result (λ b. kept_if b values.new ≡ red_all values.old) }
-    ensures stays { IfOk result (λ b. b ≡ true → AreValues frame.now values.new) }
+    ensures stays { IfOk result (λ b. b ≡ true → AreValues frame.now.types values.new) }
     ensures tight { IfOk result (λ b. b ≡ true → AreMarked values.new []) }
 {
     for k in 0..loose.len() {
@@ -216,92 +212,6 @@ pub(crate) fn reduce_values(
                 None => return Ok(false),
                 Some(new) => put(alloc, values, x, &old, new)?,
             }
-        }
-    }
-    Ok(true)
-}
-
-// The greater of a bound and one that may be there.
-fn raised(bound: Option<i128>, z: i128) -> i128
-    ensures { result ≡ raised_low bound z }
-{
-    match bound {
-        None => z,
-        Some(bound) => bound.max(z),
-    }
-}
-
-// The lesser of a bound and one that may be there.
-fn lowered(bound: Option<i128>, z: i128) -> i128
-    ensures { result ≡ lowered_high bound z }
-{
-    match bound {
-        None => z,
-        Some(bound) => bound.min(z),
-    }
-}
-
-// A value with another interval, if there is one.
-fn with_interval(value: &Value, interval: Option<Interval>) -> Option<Value>
-    ensures { result ≡ with_range value.now interval }
-{
-    match interval {
-        None => None,
-        Some(interval) => Some(Value {
-            interval,
-            congr: value.congr,
-        }),
-    }
-}
-
-// The bounds of a range, or those that are given where they are tighter.
-fn tighter(value: &Value, low: Option<i128>, high: Option<i128>) -> Option<Value>
-    ensures { result ≡ with_range value.now
-        (range_from (raised_low low value.now.range.lo) (lowered_high high value.now.range.hi)) }
-{
-    let interval = between(
-        raised(low, value.interval.lo),
-        lowered(high, value.interval.hi),
-    );
-    with_interval(value, interval)
-}
-
-// What is left of a value by an octagon's bounds on its variable k.
-fn bound(m: &Matrix, k: u32, value: &Value) -> Option<Value>
-    requires { k < m.now.vars }
-    ensures { result ≡ bounded_by m.now k value.now }
-{
-    let (low, high) = bounds(m, k);
-    tighter(value, low, high)
-}
-
-/// Bounds the values of the octagon's variables by it. False where nothing is left of one.
-pub(crate) fn bound_values(
-    alloc: Global,
-    values: &mut Blocks<Value>,
-    loose: &mut Vec<usize>,
-    m: &Matrix,
-    frame: &Frame,
-) -> Result<bool, AllocError>
-    requires values { AreValues frame.now values.old }
-    requires vars { m.now.vars ≡ length frame.now.chosen }
-    requires marked { AreMarked values.old loose.old.items }
-    ensures value { IfOk result
-        (λ b. kept_if b values.new ≡ bounded_all frame.now m.now (length frame.now.chosen) values.old) }
-    ensures stays { IfOk result (λ b. b ≡ true → AreValues frame.now values.new) }
-    ensures marked { IfOk result (λ b. b ≡ true → AreMarked values.new loose.new.items) }
-    ensures still { IfOk result (λ b. b ≡ true → loose.new.items ≡ [] →
-        (values.new ≡ values.old) × ((k : ℕ) → k < length frame.now.chosen →
-        bounded_by m.now k (known_at values.old (chosen_at frame.now k))
-        ≡ Some (known_at values.old (chosen_at frame.now k)))) }
-{
-    frame.is_layout();
-    for k in 0..frame.octagon_len() {
-        let x = frame.chosen(k);
-        let old = values.get(x);
-        match bound(m, k as u32, &old) {
-            None => return Ok(false),
-            Some(new) => put_loose(alloc, values, loose, x, &old, new)?,
         }
     }
     Ok(true)

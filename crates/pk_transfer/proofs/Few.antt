@@ -1,6 +1,7 @@
 -- Forms of at most two places.
 use Rattle.std.specs.Prelude.{◌≡◌, ℕ, ℤ, nat_le, Bool, true, false, if◌then◌else◌, List, [], ◌∷◌, length, Option, Some, None}
 use Rattle.std.proofs.Common.{refl}
+use Rattle.pk_state.specs.Layouts.{Layout}
 use Rattle.pk_state.specs.Facts.{Facts}
 use Rattle.pk_transfer.specs.Linear.{if_two}
 use Rattle.pk_transfer.specs.Assumptions.{places_in}
@@ -12,8 +13,8 @@ few_is ps qs e = by (nat_le (length ps) 2) e
     by true f = cc
     by false f = absurd (cc)
 
-pub few_none : (f : Option Facts) (ps : List ℕ) (c : ℤ) → None ≡ if_two ps → f ≡ places_in f ps c
-few_none f [] c e = absurd (cc)
-few_none f (a ∷ []) c e = absurd (cc)
-few_none f (a ∷ (b ∷ [])) c e = absurd (cc)
-few_none f (a ∷ (b ∷ (d ∷ ps))) c e = refl
+pub few_none : (y : Layout) (f : Option Facts) (ps : List ℕ) (c : ℤ) (over : List ℕ) → None ≡ if_two ps → f ≡ places_in y f ps c over
+few_none y f [] c over e = absurd (cc)
+few_none y f (a ∷ []) c over e = absurd (cc)
+few_none y f (a ∷ (b ∷ [])) c over e = absurd (cc)
+few_none y f (a ∷ (b ∷ (d ∷ ps))) c over e = refl

@@ -1,5 +1,5 @@
 -- A tree's value is that of its linear form.
-use Rattle.std.specs.Prelude.{◌≡◌, ◌⊎◌, ℕ, suc, ◌*◌, ◌/◌, ◌%◌, ◌==◌, nat_le, Bool, true, false, ◌||◌, if◌then◌else◌, ℤ, pos, ◌+ℤ◌, ◌-ℤ◌, ◌≤ℤ◌, neg_ℤ, int_le, List, [], ◌∷◌, length, map, slice_get, Option, Some, None, option_map, Ok}
+use Rattle.std.specs.Prelude.{◌≡◌, ◌⊎◌, ℕ, ◌*◌, ◌/◌, ◌%◌, ◌==◌, nat_le, Bool, true, false, ◌||◌, if◌then◌else◌, ℤ, pos, ◌+ℤ◌, ◌-ℤ◌, ◌≤ℤ◌, neg_ℤ, int_le, List, [], ◌∷◌, length, map, Option, Some, None, option_map, Ok}
 use Rattle.std.proofs.Common.{arith, refl, ap, sym, subst, inl, inr, ◌∙◌}
 use Rattle.std.proofs.lemmas.Int.{ints}
 use Rattle.std.proofs.lemmas.Bool.Decides.{nat_tests}
@@ -26,14 +26,16 @@ use Rattle.pk_graph.specs.Steps.{at_site, and_then, tree_value}
 use Rattle.pk_graph.specs.Stores.{Stored, storing, number_of}
 use Rattle.pk_value.specs.Known.{Known, IsOf, IsKnown}
 use Rattle.pk_value.proofs.Sound.{Knows}
-use Rattle.pk_state.specs.Layouts.{Layout, place_in}
+use Rattle.pk_octagons.specs.Packs.{is_chosen}
+use Rattle.pk_state.specs.Layouts.{Layout}
 use Rattle.pk_state.specs.Facts.{Facts, AreFactsIf}
-use Rattle.pk_state.specs.Members.{number_if, selected, Member}
+use Rattle.pk_state.specs.Members.{Member}
 use Rattle.pk_state.specs.Changes.{known_in}
 use Rattle.pk_transfer.specs.Trees.{tree_known, kinds_of}
 use Rattle.pk_transfer.specs.Linear.{Linear, sum_of, linear_value, with_place, with_places, negative, sum, difference, is_near, with_constant, if_few, both, where_known, where_both, is_inside, stays, is_exact, if_negative, if_sum, linear, IsBounded, FormsAreExact}
 use Rattle.pk_transfer.proofs.Told.{then_ok, site_ok, in_wider, right_wider, tree_knows}
 use Rattle.pk_transfer.proofs.Apart.{differences_guards}
+use Rattle.pk_transfer.proofs.ByPack.{by_pack}
 
 -- z is the value of the form, if there is one
 abbrev pub Tells : (ℕ → ℤ) → Option Linear → ℤ → Type 0
@@ -143,18 +145,6 @@ side_double x k =
     let half : (2 * k) / 2 ≡ k = omega arith in
     ap (λ n. if n == 0 then x ((2 * k) / 2) else neg_ℤ (x ((2 * k) / 2))) none ∙ ap x half
 
-pub place_at : (chosen : List ℕ) (x k : ℕ) → place_in chosen x ≡ Some k → slice_get chosen k ≡ Some x
-place_at [] x k e = absurd (cc)
-place_at (y ∷ ys) x k e = by (λ j h. place_at ys x j h) (y == x) refl e
-  where
-    after : ((j : ℕ) → place_in ys x ≡ Some j → slice_get ys j ≡ Some x) → (o : Option ℕ) → place_in ys x ≡ o → option_map suc o ≡ Some k → slice_get (y ∷ ys) k ≡ Some x
-    after later None h f = absurd (cc)
-    after later (Some j) h f = let same : suc j ≡ k = cc in subst (λ n. slice_get (y ∷ ys) n ≡ Some x) same (later j h)
-
-    by : ((j : ℕ) → place_in ys x ≡ Some j → slice_get ys j ≡ Some x) → (b : Bool) → (y == x) ≡ b → (if b then Some 0 else option_map suc (place_in ys x)) ≡ Some k → slice_get (y ∷ ys) k ≡ Some x
-    by later true h f = let here = ap Some (equal_numbers y x h) in let same : 0 ≡ k = cc in subst (λ n. slice_get (y ∷ ys) n ≡ Some x) same here
-    by later false h f = after later (place_in ys x) refl f
-
 -- ---- trees
 
 at_some : (t : IntType) (o : Option Known) (k : Known) (z : ℤ) → o ≡ Some k → Knows t o z → IsOf k z × IsKnown t k
@@ -202,43 +192,40 @@ tells_if_sum x Neg l m z g h = tt
 tells_if_sum x BitNot l m z g h = tt
 tells_if_sum x Not l m z g h = tt
 
-pub tree_tells : (y : Layout) (f : Option Facts) (s : Stored) (e : TreeOf ℕ) (z : ℤ) → AreFactsIf y f → Member y f s → IsTyped (kinds_of y) e → tree_value storing e s ≡ Ok z → Tells (selected y.chosen s) (linear y.chosen (known_in f) e) z
-tree_tells y f s (variable x) z a m h e = go (place_in y.chosen x) refl
+pub tree_tells : (y : Layout) (f : Option Facts) (s : Stored) (e : TreeOf ℕ) (z : ℤ) → AreFactsIf y f → Member y f s → IsTyped (kinds_of y) e → tree_value storing e s ≡ Ok z → Tells (number_of s) (linear y.packs (known_in f) e) z
+tree_tells y f s (variable x) z a m h e = by (is_chosen y.packs x)
   where
-    go : (o : Option ℕ) → place_in y.chosen x ≡ o → Tells (selected y.chosen s) (option_map (λ k. record { constant = pos 0; places = 2 * k ∷ [] }) o) z
-    go None q = tt
-    go (Some k) q =
-        let same : number_of s x ≡ z = cc in
-        let here : selected y.chosen s k ≡ number_of s x = ap (number_if s) (place_at y.chosen x k q) in
-        omega (arith, ints, same, here, side_double (selected y.chosen s) k)
+    by : (b : Bool) → Tells (number_of s) (if b then Some (record { constant = pos 0; places = 2 * x ∷ [] }) else None) z
+    by false = tt
+    by true = let same : number_of s x ≡ z = cc in omega (arith, ints, same, side_double (number_of s) x)
 tree_tells y f s (constant t c) z a m h e = let same : c ≡ z = cc in omega (arith, ints, same)
 tree_tells y f s (converted t e) z a m h k =
     let is = then_ok (tree_value storing e s) (λ v. Ok (wrapped t v)) z k in
     let same : wrapped t is.0 ≡ z = cc in
     let ih = tree_tells y f s e is.0 a m h is.1 in
-    tells_where (selected y.chosen s) (tree_known (known_in f) e) (λ j. is_inside t j.range) (linear y.chosen (known_in f) e) z
+    tells_where (number_of s) (tree_known (known_in f) e) (λ j. is_inside t j.range) (linear y.packs (known_in f) e) z
     (λ j q g.
     let known = at_some (type_of (kinds_of y) e) (tree_known (known_in f) e) j is.0 q (tree_knows y f s e is.0 a m h is.1) in
     let stay : is.0 ≡ z = sym (wrapped_inside t is.0 (inside_holds t j.range is.0 g known.0.in_range)) ∙ same in
-    subst (Tells (selected y.chosen s) (linear y.chosen (known_in f) e)) stay ih)
+    subst (Tells (number_of s) (linear y.packs (known_in f) e)) stay ih)
 tree_tells y f s (unary op p t e) z a m h k =
-    let x = selected y.chosen s in
+    let x = number_of s in
     let u = type_of (kinds_of y) e in
     let is = then_ok (tree_value storing e s) (λ v. at_site p (value_of op t v v)) z k in
     let known_e = tree_knows y f s e is.0 a m h.1 is.1 in
-    let ih = tells_negative x (linear y.chosen (known_in f) e) is.0 (tree_tells y f s e is.0 a m h.1 is.1) in
-    tells_if_negative x op (where_known (tree_known (known_in f) e) (λ j. is_exact Neg t j j) (option_map negative (linear y.chosen (known_in f) e))) z
-    (λ c. tells_where x (tree_known (known_in f) e) (λ j. is_exact Neg t j j) (option_map negative (linear y.chosen (known_in f) e)) z
+    let ih = tells_negative x (linear y.packs (known_in f) e) is.0 (tree_tells y f s e is.0 a m h.1 is.1) in
+    tells_if_negative x op (where_known (tree_known (known_in f) e) (λ j. is_exact Neg t j j) (option_map negative (linear y.packs (known_in f) e))) z
+    (λ c. tells_where x (tree_known (known_in f) e) (λ j. is_exact Neg t j j) (option_map negative (linear y.packs (known_in f) e)) z
     (λ j q g.
     let known = at_some u (tree_known (known_in f) e) j is.0 q known_e in
     let inside = in_wider t u j.range h.2 known.1.inside in
     let before = ranges_sound.before Neg t j.range j.range is.0 is.0 (neg_ℤ is.0) inside tt known.0.in_range known.0.in_range refl in
     let value : value_of Neg t is.0 is.0 ≡ Ok z = subst (λ o. value_of o t is.0 is.0 ≡ Ok z) c (site_ok p (value_of op t is.0 is.0) z is.2) in
-    subst (Tells x (option_map negative (linear y.chosen (known_in f) e))) (kept Overflow t (range_of Neg t j.range j.range) (neg_ℤ is.0) z g before value) ih))
+    subst (Tells x (option_map negative (linear y.packs (known_in f) e))) (kept Overflow t (range_of Neg t j.range j.range) (neg_ℤ is.0) z g before value) ih))
 tree_tells y f s (binary op p t d b) z a m h k =
-    let x = selected y.chosen s in
-    let n = linear y.chosen (known_in f) d in
-    let r = linear y.chosen (known_in f) b in
+    let x = number_of s in
+    let n = linear y.packs (known_in f) d in
+    let r = linear y.packs (known_in f) b in
     let left = then_ok (tree_value storing d s) (λ v. and_then (tree_value storing b s) (λ w. at_site p (value_of op t v w))) z k in
     let right = then_ok (tree_value storing b s) (λ w. at_site p (value_of op t left.0 w)) z left.2 in
     let known_d = tree_knows y f s d left.0 a m h.0 left.1 in
@@ -273,7 +260,8 @@ bounded x (a ∷ (b ∷ (d ∷ ps))) c h = tt
 
 pub forms_exact : FormsAreExact
 forms_exact = record {
-  values = λ y f s e z l a m h v q. subst (λ o. Tells (selected y.chosen s) o z) q (tree_tells y f s e z a m h v);
+  values = λ y f s e z l a m h v q. subst (λ o. Tells (number_of s) o z) q (tree_tells y f s e z a m h v);
   bounded = λ x l r h. bounded x (difference l r).places (r.constant -ℤ l.constant) (omega (arith, ints, h, sum_with_places x l.places (map bar r.places), sum_negative x r.places));
   guards = differences_guards;
+  by_pack = by_pack;
 }

@@ -8,8 +8,9 @@ use Rattle.pk_ctypes.specs.declared.types.IntType.{IntType}
 use Rattle.pk_graph.specs.declared.graphs.Variable.{Variable}
 use Rattle.pk_graph.specs.Kinds.{Kind, Kinds}
 use Rattle.pk_graph.specs.Graphs.{VariableOf, GraphOf, variable_view, kinds_of}
+use Rattle.pk_state.specs.Layouts.{Layout}
 use Rattle.pk_transfer.specs.Slots.{is_small, further_count, further_types, slot_types, further_from, further_of}
-use Rattle.pk_transfer.specs.Graphs.{kinds_shown, own_types}
+use Rattle.pk_transfer.specs.Graphs.{kinds_shown, own_types, layout_over}
 use Rattle.pk_transfer.proofs.Slotting.{further_length}
 
 kinds_next : (vs : List Variable) (k : ℕ) (d : Variable) → k < length vs → kinds_shown (take (k + 1) vs) ≡ kinds_shown (take k vs) ++ (variable_view (slice_index_or vs k d)).kind ∷ []
@@ -58,6 +59,12 @@ kinds_are g vs are = sym (map_map variable_view (λ (x : VariableOf). x.kind) vs
 
 pub slots_made : (g : GraphOf) (vs : List Variable) (own all : List IntType) → kinds_shown vs ≡ kinds_of g → own ≡ own_types vs → all ≡ own ++ flat_map further_types (kinds_shown vs) → all ≡ slot_types (kinds_of g)
 slots_made g vs own all are so made = made ∙ ap (λ (ts : List IntType). ts ++ flat_map further_types (kinds_shown vs)) so ∙ ap slot_types are
+
+pub layout_made : (g : GraphOf) (types : List IntType) (packs : List (List ℕ)) (further : List (Option ℕ)) → types ≡ slot_types (kinds_of g) → further ≡ further_of (kinds_of g)
+    → (let l : Layout = record { types = types; packs = packs; further = further } in l) ≡ layout_over g packs
+layout_made g types packs further t f =
+    ap (λ (ts : List IntType). let l : Layout = record { types = ts; packs = packs; further = further } in l) t
+    ∙ ap (λ (ns : List (Option ℕ)). let l : Layout = record { types = slot_types (kinds_of g); packs = packs; further = ns } in l) f
 
 pub further_made : (g : GraphOf) (vs : List Variable) (own : List IntType) (all : List (Option ℕ)) → kinds_shown vs ≡ kinds_of g → own ≡ own_types vs → all ≡ further_from (length own) (kinds_shown vs) → all ≡ further_of (kinds_of g)
 further_made g vs own all are so made =

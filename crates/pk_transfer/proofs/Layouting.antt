@@ -1,20 +1,22 @@
 -- The layouts of graphs.
-use Rattle.std.specs.Prelude.{◌≡◌, ◌⊎◌, ℕ, zero, suc, ◌+◌, ◌<◌, ◌≤◌, not, Bool, true, false, ◌&&◌, if◌then◌else◌, is_some, List, [], ◌∷◌, length, map, slice_index_or, All, Option, Some, None}
-use Rattle.std.proofs.Common.{arith, refl, ap, sym, ◌∙◌, inl, inr}
+use Rattle.std.specs.Prelude.{◌≡◌, ◌⊎◌, ℕ, zero, suc, ◌+◌, ◌<◌, ◌≤◌, ◌^◌, not, Bool, true, false, ◌&&◌, if◌then◌else◌, is_some, List, [], ◌∷◌, length, map, slice_index_or, All, Option, Some, None}
+use Rattle.std.proofs.Common.{arith, refl, ap, subst, ◌∙◌, inl, inr}
 use Rattle.std.proofs.Math.ListN.{get_or-map}
 use Rattle.std.proofs.lemmas.Bool.{cases_lt}
 use Rattle.std.proofs.lemmas.List.{length-map}
-use Rattle.std.proofs.lemmas.List.Elements.{All-get_or, All-from_get_or}
+use Rattle.std.proofs.lemmas.List.Elements.{All-get_or, All-from_get_or, All-nil, All-cons, All-head, All-tail, All-weaker}
 use Rattle.pk_ctypes.proofs.Small.{both_true}
 use Rattle.pk_graph.specs.Trees.{Skip}
-use Rattle.pk_graph.specs.Kinds.{Kind, no_kind, kind_at}
+use Rattle.pk_graph.specs.Kinds.{Kind, kind_at, IsScalar}
 use Rattle.pk_graph.specs.Graphs.{VariableOf, PointOf, EdgeOf, GraphOf, no_variable, no_point, kinds_of, point_at}
 use Rattle.pk_graph.specs.WellMade.{IsGraph, IsPointOf, IsEdgeOf}
-use Rattle.pk_graph.specs.OctagonVariables.{is_asked_in, is_named_scalar, first_asked}
-use Rattle.pk_state.specs.Layouts.{Layout, chosen_at}
+use Rattle.pk_graph.specs.OctagonVariables.{is_asked_in, is_named_scalar, first_asked, octagon_variables_of}
+use Rattle.pk_octagons.specs.Packs.{chosen_at, IsPack, ArePacks}
+use Rattle.pk_octagons.specs.Members.{IsChosen}
+use Rattle.pk_state.specs.Layouts.{Layout}
 use Rattle.pk_transfer.specs.Trees.{IsOver}
 use Rattle.pk_transfer.specs.Transfers.{IsInstrOver}
-use Rattle.pk_transfer.specs.Graphs.{layout_of, GraphsAreOver}
+use Rattle.pk_transfer.specs.Graphs.{layout_of, layout_over, IsPackOfGraph, GraphsAreOver}
 use Rattle.pk_transfer.proofs.Slotting.{own_there, has_slots}
 
 -- ---- the first asked variables
@@ -62,14 +64,6 @@ rising ps (suc n) k (v ∷ vs) i j l h = by (λ a b. rising ps n (k + 1) vs a b)
     by f g true (suc i) (suc j) l h = f i j (omega (arith, l)) (omega (arith, h))
     by f g false i j l h = g i j l h
 
-once : (ps : List PointOf) (n k : ℕ) (vs : List VariableOf) (i j : ℕ) → i < length (first_asked ps n k vs) → j < length (first_asked ps n k vs) → slice_index_or (first_asked ps n k vs) i 0 ≡ slice_index_or (first_asked ps n k vs) j 0 → i ≡ j
-once ps n k vs i j p q e = by (cases_lt i j) (cases_lt j i)
-  where
-    by : (i < j) ⊎ (j ≤ i) → (j < i) ⊎ (i ≤ j) → i ≡ j
-    by (inl l) o = absurd (omega (arith, e, rising ps n k vs i j l q))
-    by (inr g) (inl l) = absurd (omega (arith, e, rising ps n k vs j i l p))
-    by (inr g) (inr h) = omega (arith, g, h)
-
 -- ---- layouts
 
 no_length : (o : Option ℕ) → not (is_some o) ≡ true → o ≡ None
@@ -86,14 +80,58 @@ scalar g x h =
     ∙ ap (λ (k : Kind). k.length) (kinds_at g.variables h.place)
     ∙ no_length (slice_index_or g.variables h.place no_variable).kind.length (both_true (not (is_some (slice_index_or g.variables h.place no_variable).kind.length)) (is_some (slice_index_or g.variables h.place no_variable).name) h.scalar).0
 
+-- they are scalars, and a pack
+asked_scalar : (g : GraphOf) (ps : List PointOf) (n k : ℕ) → k < length (first_asked ps n 0 g.variables) → IsScalar (kinds_of g) (chosen_at (first_asked ps n 0 g.variables) k)
+asked_scalar g ps n k h =
+    let from = asked_from ps n 0 g.variables k h in
+    record { there = omega (arith, from.number, from.there, length-map g.variables (λ (v : VariableOf). v.kind)); scalar = scalar g (chosen_at (first_asked ps n 0 g.variables) k) from }
+
+asked : (g : GraphOf) (ps : List PointOf) (n : ℕ) → n < 2 ^ 31 → IsPackOfGraph g (first_asked ps n 0 g.variables)
+asked g ps n few = record { few = omega (arith, few, few_asked ps n 0 g.variables); scalars = asked_scalar g ps n; rising = rising ps n 0 g.variables }
+
+-- a variable of packs is one of a pack's
+chosen_scalar : (g : GraphOf) (packs : List (List ℕ)) (x : ℕ) → All (IsPackOfGraph g) packs → IsChosen packs x → IsScalar (kinds_of g) x
+chosen_scalar g [] x h i = absurd i
+chosen_scalar g (c ∷ packs) x h (inl i) = subst (IsScalar (kinds_of g)) i.2 ((All-head (IsPackOfGraph g) c packs h).scalars i.0 i.1)
+chosen_scalar g (c ∷ packs) x h (inr i) = chosen_scalar g packs x (All-tail (IsPackOfGraph g) c packs h) i
+
+over_packs : (g : GraphOf) (packs : List (List ℕ)) → All (IsPackOfGraph g) packs → IsOver (kinds_of g) (layout_over g packs)
+over_packs g packs h = record { types = refl; further = refl; scalars = λ x i. chosen_scalar g packs x h i }
+
+-- the slots are the same whatever the packs are
+layouts_of_packs : (g : GraphOf) (packs : List (List ℕ)) → All (IsPackOfGraph g) packs → ArePacks (length (layout_over g packs).types) packs
+layouts_of_packs g packs h = All-weaker (IsPackOfGraph g) (IsPack (length (layout_over g packs).types)) one packs h
+  where
+    once : (c : List ℕ) → IsPackOfGraph g c → (i j : ℕ) → i < length c → j < length c → chosen_at c i ≡ chosen_at c j → i ≡ j
+    once c own i j p q e = by (cases_lt i j) (cases_lt j i)
+      where
+        by : (i < j) ⊎ (j ≤ i) → (j < i) ⊎ (i ≤ j) → i ≡ j
+        by (inl l) o = absurd (omega (arith, e, own.rising i j l q))
+        by (inr r) (inl l) = absurd (omega (arith, e, own.rising j i l p))
+        by (inr r) (inr s) = omega (arith, r, s)
+
+    one : (c : List ℕ) → IsPackOfGraph g c → IsPack (length (layout_over g packs).types) c
+    one c own = record {
+      few = own.few;
+      there = λ k p. own_there (kinds_of g) (layout_over g packs) (over_packs g packs h) (chosen_at c k) (own.scalars k p).there;
+      once = once c own;
+    }
+
+-- of a graph and at most n variables
+one_pack : (g : GraphOf) (n : ℕ) → n < 2 ^ 31 → All (IsPackOfGraph g) (octagon_variables_of g n ∷ [])
+one_pack g n few = All-cons (IsPackOfGraph g) (octagon_variables_of g n) [] (asked g g.points n few) (All-nil (IsPackOfGraph g))
+
+-- its variables are scalars, however many they are
 over_of : (g : GraphOf) (n : ℕ) → IsOver (kinds_of g) (layout_of g n)
 over_of g n = record {
   types = refl;
   further = refl;
-  scalars = λ k h.
-      let from = asked_from g.points n 0 g.variables k h in
-      record { there = omega (arith, from.number, from.there, length-map g.variables (λ (v : VariableOf). v.kind)); scalar = scalar g (slice_index_or (layout_of g n).chosen k 0) from };
+  scalars = λ x i. by x i;
 }
+  where
+    by : (x : ℕ) → IsChosen (octagon_variables_of g n ∷ []) x → IsScalar (kinds_of g) x
+    by x (inl i) = subst (IsScalar (kinds_of g)) i.2 (asked_scalar g g.points n i.0 i.1)
+    by x (inr i) = absurd i
 
 no_edge : EdgeOf
 no_edge = record { instr = Skip; to = 0 }
@@ -106,11 +144,10 @@ instructions g y p h o l =
 
 pub graphs_over : GraphsAreOver
 graphs_over = record {
-  layouts = λ g n few. record {
-    few = omega (arith, few, few_asked g.points n 0 g.variables);
-    there = λ k h. own_there (kinds_of g) (layout_of g n) (over_of g n) (chosen_at (layout_of g n) k) ((over_of g n).scalars k h).there;
-    once = once g.points n 0 g.variables;
-  };
+  packs = asked;
+  layouts_of_packs = layouts_of_packs;
+  over_packs = over_packs;
+  layouts = λ g n few. layouts_of_packs g (octagon_variables_of g n ∷ []) (one_pack g n few);
   over = over_of;
   slots = λ ks y x over h. has_slots ks y over x h;
   instructions = instructions;

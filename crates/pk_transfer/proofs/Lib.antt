@@ -5,6 +5,7 @@ pub mod Spreading
 mod Smalls
 mod EachLemmas
 pub mod Apart
+mod ByPack
 pub mod Forms
 pub mod Assigning
 pub mod Passing

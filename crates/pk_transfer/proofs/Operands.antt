@@ -10,7 +10,7 @@ use Rattle.pk_interval.specs.Ranges.{Range, IsIn}
 use Rattle.pk_interval.specs.Operators.{HasRightIn}
 use Rattle.pk_graph.specs.Kinds.{IsRight}
 use Rattle.pk_value.specs.Known.{Known}
-use Rattle.pk_state.specs.Changes.{IsValue}
+use Rattle.pk_octagons.specs.Values.{IsValue}
 use Rattle.pk_transfer.specs.Told.{Told}
 use Rattle.pk_transfer.proofs.Told.{in_wider, right_wider}
 

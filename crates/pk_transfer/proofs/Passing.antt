@@ -1,6 +1,6 @@
 -- Guards keep the stores in which their trees have the wanted truth.
-use Rattle.std.specs.Prelude.{◌≡◌, ℕ, ◌<◌, Bool, true, false, not, if◌then◌else◌, ℤ, pos, ◌+ℤ◌, ◌-ℤ◌, ◌≤ℤ◌, List, [], ◌∷◌, length, Option, Some, None, Ok}
-use Rattle.std.proofs.Common.{arith, refl, ap, sym, subst, ◌∙◌, length-set}
+use Rattle.std.specs.Prelude.{◌≡◌, ℕ, ◌<◌, Bool, true, false, not, if◌then◌else◌, ℤ, pos, ◌+ℤ◌, ◌-ℤ◌, ◌≤ℤ◌, List, [], ◌∷◌, ◌++◌, length, Option, Some, None, Ok}
+use Rattle.std.proofs.Common.{arith, refl, sym, subst, ◌∙◌, length-set}
 use Rattle.std.proofs.lemmas.Int.{ints}
 use Rattle.pk_ctypes.specs.declared.types.IntType.TheVariants.{Int}
 use Rattle.pk_ctypes.specs.declared.types.Op.{Op}
@@ -12,14 +12,15 @@ use Rattle.pk_graph.specs.Steps.{number_at, tree_value}
 use Rattle.pk_graph.specs.Stores.{Stored, storing, numbers_of, number_of}
 use Rattle.pk_value.specs.Known.{Known, IsOf, IsOneOf}
 use Rattle.pk_value.proofs.Sound.{equal_by_test}
+use Rattle.pk_octagons.specs.Values.{known_at}
 use Rattle.pk_state.specs.Layouts.{Layout}
-use Rattle.pk_state.specs.Facts.{Facts, known_at, AreFactsIf}
-use Rattle.pk_state.specs.Members.{selected, Member}
+use Rattle.pk_state.specs.Facts.{Facts, AreFactsIf}
+use Rattle.pk_state.specs.Members.{Member}
 use Rattle.pk_state.specs.Changes.{known_in, with_known, AreNumbersOf}
 use Rattle.pk_state.proofs.Changed.{changes_sound, changes_stay, refined_values}
 use Rattle.pk_transfer.specs.Slots.{spread}
 use Rattle.pk_transfer.specs.Trees.{tree_known, IsOver}
-use Rattle.pk_transfer.specs.Linear.{Linear, difference, linear, IsBounded, IsGuardOn}
+use Rattle.pk_transfer.specs.Linear.{Linear, difference, variables_of, linear, IsBounded, IsGuardOn}
 use Rattle.pk_transfer.specs.Guards.{is_comparison, is_zero, negated, condition_of, Condition, test_of, HoldsIn, flipped, refined}
 use Rattle.pk_transfer.specs.Assignments.{with_known_if}
 use Rattle.pk_transfer.specs.Assumptions.{places_in, le_in, compared_in, with_operand, if_some, refined_in, GuardsPass}
@@ -30,58 +31,58 @@ use Rattle.pk_transfer.proofs.Apart.{differences_guards}
 use Rattle.pk_transfer.proofs.Forms.{Tells, tree_tells, forms_exact}
 use Rattle.pk_transfer.proofs.Refining.{turned, guards_keep}
 
--- ---- the octagon
+-- ---- the octagons
 
-places_keep : (y : Layout) (f : Option Facts) (s : Stored) (ps : List ℕ) (c : ℤ) → AreFactsIf y f → Member y f s → IsGuardOn (length y.chosen) ps → IsBounded (selected y.chosen s) ps c → AreFactsIf y (places_in f ps c) × Member y (places_in f ps c) s
-places_keep y f s [] c a m g o = (changes_stay.guarded y f None None c a g, changes_sound.guarded y f s None None c a m g o)
-places_keep y f s (p ∷ []) c a m g o = (changes_stay.guarded y f (Some p) None c a g, changes_sound.guarded y f s (Some p) None c a m g o)
-places_keep y f s (p ∷ (q ∷ [])) c a m g o = (changes_stay.guarded y f (Some p) (Some q) c a g, changes_sound.guarded y f s (Some p) (Some q) c a m g o)
-places_keep y f s (p ∷ (q ∷ (r ∷ ps))) c a m g o = (a, m)
+places_keep : (y : Layout) (f : Option Facts) (s : Stored) (ps : List ℕ) (c : ℤ) (over : List ℕ) → AreFactsIf y f → Member y f s → IsGuardOn ps → IsBounded (number_of s) ps c → AreFactsIf y (places_in y f ps c over) × Member y (places_in y f ps c over) s
+places_keep y f s [] c over a m g o = (changes_stay.guarded y f None None c over a g, changes_sound.guarded y f s None None c over a m g o)
+places_keep y f s (p ∷ []) c over a m g o = (changes_stay.guarded y f (Some p) None c over a g, changes_sound.guarded y f s (Some p) None c over a m g o)
+places_keep y f s (p ∷ (q ∷ [])) c over a m g o = (changes_stay.guarded y f (Some p) (Some q) c over a g, changes_sound.guarded y f s (Some p) (Some q) c over a m g o)
+places_keep y f s (p ∷ (q ∷ (r ∷ ps))) c over a m g o = (a, m)
 
-le_forms : (y : Layout) (f : Option Facts) (s : Stored) (o p : Option Linear) (n v w : ℤ) → AreFactsIf y f → Member y f s → ((l r : Linear) → o ≡ Some l → p ≡ Some r → IsGuardOn (length y.chosen) (difference l r).places) → Tells (selected y.chosen s) o v → Tells (selected y.chosen s) p w → (v +ℤ n) ≤ℤ w
-    → AreFactsIf y (le_in f o p n) × Member y (le_in f o p n) s
-le_forms y f s None p n v w a m g t u h = (a, m)
-le_forms y f s (Some l) None n v w a m g t u h = (a, m)
-le_forms y f s (Some l) (Some r) n v w a m g t u h =
-    places_keep y f s (difference l r).places ((r.constant -ℤ n) -ℤ l.constant) a m (g l r refl refl)
-    (forms_exact.bounded (selected y.chosen s) l (record { constant = r.constant -ℤ n; places = r.places }) (omega (arith, ints, t, u, h)))
+le_forms : (y : Layout) (f : Option Facts) (s : Stored) (o p : Option Linear) (n v w : ℤ) (over : List ℕ) → AreFactsIf y f → Member y f s → ((l r : Linear) → o ≡ Some l → p ≡ Some r → IsGuardOn (difference l r).places) → Tells (number_of s) o v → Tells (number_of s) p w → (v +ℤ n) ≤ℤ w
+    → AreFactsIf y (le_in y f o p n over) × Member y (le_in y f o p n over) s
+le_forms y f s None p n v w over a m g t u h = (a, m)
+le_forms y f s (Some l) None n v w over a m g t u h = (a, m)
+le_forms y f s (Some l) (Some r) n v w over a m g t u h =
+    places_keep y f s (difference l r).places ((r.constant -ℤ n) -ℤ l.constant) over a m (g l r refl refl)
+    (forms_exact.bounded (number_of s) l (record { constant = r.constant -ℤ n; places = r.places }) (omega (arith, ints, t, u, h)))
 
 -- the two trees' forms, for any state that is known of them
 record AreForms (y : Layout) (s : Stored) (o p : Option Linear) (v w : ℤ) : Type 0 where
-  left : Tells (selected y.chosen s) o v
-  right : Tells (selected y.chosen s) p w
-  there : (l r : Linear) → o ≡ Some l → p ≡ Some r → IsGuardOn (length y.chosen) (difference l r).places
-  back : (l r : Linear) → p ≡ Some l → o ≡ Some r → IsGuardOn (length y.chosen) (difference l r).places
+  left : Tells (number_of s) o v
+  right : Tells (number_of s) p w
+  there : (l r : Linear) → o ≡ Some l → p ≡ Some r → IsGuardOn (difference l r).places
+  back : (l r : Linear) → p ≡ Some l → o ≡ Some r → IsGuardOn (difference l r).places
 
-compared_keep : (op : Op) (y : Layout) (f : Option Facts) (s : Stored) (o p : Option Linear) (v w : ℤ) → AreFactsIf y f → Member y f s → AreForms y s o p v w → test_of op v w ≡ true → AreFactsIf y (compared_in op f o p) × Member y (compared_in op f o p) s
-compared_keep Add y f s o p v w a m g h = (a, m)
-compared_keep Sub y f s o p v w a m g h = (a, m)
-compared_keep Mul y f s o p v w a m g h = (a, m)
-compared_keep Div y f s o p v w a m g h = (a, m)
-compared_keep Rem y f s o p v w a m g h = (a, m)
-compared_keep Shl y f s o p v w a m g h = (a, m)
-compared_keep Shr y f s o p v w a m g h = (a, m)
-compared_keep And y f s o p v w a m g h = (a, m)
-compared_keep Or y f s o p v w a m g h = (a, m)
-compared_keep Xor y f s o p v w a m g h = (a, m)
-compared_keep Lt y f s o p v w a m g h = le_forms y f s o p (pos 1) v w a m g.there g.left g.right (omega (arith, ints, h))
-compared_keep Gt y f s o p v w a m g h = le_forms y f s p o (pos 1) w v a m g.back g.right g.left (omega (arith, ints, h))
-compared_keep Le y f s o p v w a m g h = le_forms y f s o p (pos 0) v w a m g.there g.left g.right (omega (arith, ints, h))
-compared_keep Ge y f s o p v w a m g h = le_forms y f s p o (pos 0) w v a m g.back g.right g.left (omega (arith, ints, h))
-compared_keep Eq y f s o p v w a m g h =
+compared_keep : (op : Op) (y : Layout) (f : Option Facts) (s : Stored) (o p : Option Linear) (v w : ℤ) (over : List ℕ) → AreFactsIf y f → Member y f s → AreForms y s o p v w → test_of op v w ≡ true → AreFactsIf y (compared_in op y f o p over) × Member y (compared_in op y f o p over) s
+compared_keep Add y f s o p v w over a m g h = (a, m)
+compared_keep Sub y f s o p v w over a m g h = (a, m)
+compared_keep Mul y f s o p v w over a m g h = (a, m)
+compared_keep Div y f s o p v w over a m g h = (a, m)
+compared_keep Rem y f s o p v w over a m g h = (a, m)
+compared_keep Shl y f s o p v w over a m g h = (a, m)
+compared_keep Shr y f s o p v w over a m g h = (a, m)
+compared_keep And y f s o p v w over a m g h = (a, m)
+compared_keep Or y f s o p v w over a m g h = (a, m)
+compared_keep Xor y f s o p v w over a m g h = (a, m)
+compared_keep Lt y f s o p v w over a m g h = le_forms y f s o p (pos 1) v w over a m g.there g.left g.right (omega (arith, ints, h))
+compared_keep Gt y f s o p v w over a m g h = le_forms y f s p o (pos 1) w v over a m g.back g.right g.left (omega (arith, ints, h))
+compared_keep Le y f s o p v w over a m g h = le_forms y f s o p (pos 0) v w over a m g.there g.left g.right (omega (arith, ints, h))
+compared_keep Ge y f s o p v w over a m g h = le_forms y f s p o (pos 0) w v over a m g.back g.right g.left (omega (arith, ints, h))
+compared_keep Eq y f s o p v w over a m g h =
     let same = equal_by_test v w h in
-    let once = le_forms y f s o p (pos 0) v w a m g.there g.left g.right (omega (arith, ints, same)) in
-    le_forms y (le_in f o p (pos 0)) s p o (pos 0) w v once.0 once.1 g.back g.right g.left (omega (arith, ints, same))
-compared_keep Ne y f s o p v w a m g h = (a, m)
-compared_keep Neg y f s o p v w a m g h = (a, m)
-compared_keep BitNot y f s o p v w a m g h = (a, m)
-compared_keep Not y f s o p v w a m g h = (a, m)
+    let once = le_forms y f s o p (pos 0) v w over a m g.there g.left g.right (omega (arith, ints, same)) in
+    le_forms y (le_in y f o p (pos 0) over) s p o (pos 0) w v over once.0 once.1 g.back g.right g.left (omega (arith, ints, same))
+compared_keep Ne y f s o p v w over a m g h = (a, m)
+compared_keep Neg y f s o p v w over a m g h = (a, m)
+compared_keep BitNot y f s o p v w over a m g h = (a, m)
+compared_keep Not y f s o p v w over a m g h = (a, m)
 
 -- ---- the operands
 
 refined_one : (y : Layout) (f : Option Facts) (s : Stored) (x : ℕ) (k : Known) → Member y f s → AreNumbersOf k (numbers_of s x) → Member y (with_known f x k) s
 refined_one y None s x k m n = absurd m
-refined_one y (Some f) s x k m n = record { values = refined_values f.values s x k m.values n; scalars = m.scalars; octagon = m.octagon }
+refined_one y (Some f) s x k m n = record { values = refined_values f.values s x k m.values n; scalars = m.scalars; octagons = m.octagons }
 
 -- a scalar's number is its only one
 abbrev pub HasScalars : Kinds → Stored → Type 0
@@ -166,18 +167,19 @@ condition_typed ks (binary op p t d e) b h = by (is_comparison op)
     by false = (h, zero_typed ks)
 
 holds_keep : (ks : Kinds) (y : Layout) (f : Option Facts) (s : Stored) (c : Condition) → IsOver ks y → HasScalars ks s → AreFactsIf y f → Member y f s → AreTyped ks c → HoldsIn s c
-    → Member y (refined_in (compared_in c.op f (linear y.chosen (known_in f) c.left) (linear y.chosen (known_in f) c.right)) c (tree_known (known_in f) c.left) (tree_known (known_in f) c.right)) s
+    → Member y (refined_in (compared_in c.op y f (linear y.packs (known_in f) c.left) (linear y.packs (known_in f) c.right) (variables_of c.left ++ variables_of c.right)) c (tree_known (known_in f) c.left) (tree_known (known_in f) c.right)) s
 holds_keep ks y f s c over st a m h i =
     let left = trees_sound.typed ks y c.left over h.0 in
     let right = trees_sound.typed ks y c.right over h.1 in
-    let forms : AreForms y s (linear y.chosen (known_in f) c.left) (linear y.chosen (known_in f) c.right) i.x i.y = record {
+    let forms : AreForms y s (linear y.packs (known_in f) c.left) (linear y.packs (known_in f) c.right) i.x i.y = record {
       left = tree_tells y f s c.left i.x a m left i.left_is;
       right = tree_tells y f s c.right i.y a m right i.right_is;
-      there = differences_guards y.chosen (known_in f) c.left c.right;
-      back = differences_guards y.chosen (known_in f) c.right c.left;
+      there = differences_guards y.packs (known_in f) c.left c.right;
+      back = differences_guards y.packs (known_in f) c.right c.left;
     } in
-    let first = compared_keep c.op y f s (linear y.chosen (known_in f) c.left) (linear y.chosen (known_in f) c.right) i.x i.y a m forms i.holds in
-    let g = compared_in c.op f (linear y.chosen (known_in f) c.left) (linear y.chosen (known_in f) c.right) in
+    let read = variables_of c.left ++ variables_of c.right in
+    let first = compared_keep c.op y f s (linear y.packs (known_in f) c.left) (linear y.packs (known_in f) c.right) i.x i.y read a m forms i.holds in
+    let g = compared_in c.op y f (linear y.packs (known_in f) c.left) (linear y.packs (known_in f) c.right) read in
     refined_keep ks y g s c (tree_known (known_in f) c.left) (tree_known (known_in f) c.right) i over st (size_of y g first.0) first.1 h.0 h.1
     (trees_sound.values y f s c.left i.x a m left i.left_is) (trees_sound.values y f s c.right i.y a m right i.right_is)
 

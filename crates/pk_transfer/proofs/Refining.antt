@@ -23,7 +23,7 @@ use Rattle.pk_value.specs.Values.{is_constant}
 use Rattle.pk_value.proofs.Sound.{equal_by_test}
 use Rattle.pk_transfer.proofs.Told.{then_ok, site_ok}
 use Rattle.pk_transfer.specs.Guards.{negated, flipped, is_comparison, is_zero, condition_of, test_of, HoldsIn, with_both, other_than, refined, GuardsKeep}
-use Rattle.pk_state.specs.Reduced.{with_range}
+use Rattle.pk_octagons.specs.Reduced.{with_range}
 
 -- ---- tests
 

@@ -1,5 +1,5 @@
 -- Where the numbers of a table's variables have their slots.
-use Rattle.std.specs.Prelude.{◌≡◌, ◌≢◌, ◌⊎◌, ℕ, zero, suc, ◌+◌, ◌-◌, ◌<◌, ◌≤◌, nat_le, Bool, true, false, if◌then◌else◌, ℤ, pos, List, [], ◌∷◌, ◌++◌, length, map, take, drop, replicate, slice_index_or, slice_set, Option, Some, None, is_some}
+use Rattle.std.specs.Prelude.{◌≡◌, ◌≢◌, ◌⊎◌, ℕ, zero, suc, ◌+◌, ◌-◌, ◌<◌, ◌≤◌, Bool, true, false, if◌then◌else◌, ℤ, pos, List, [], ◌∷◌, ◌++◌, length, map, take, drop, slice_index_or, Option, Some, None, is_some}
 use Rattle.std.specs.List.{flat_map}
 use Rattle.std.proofs.Common.{arith, refl, ap, sym, subst, ◌∙◌, inl, inr}
 use Rattle.std.proofs.Math.ListN.{get_or-append}
@@ -13,8 +13,9 @@ use Rattle.pk_graph.specs.Kinds.{Kind, Kinds, no_kind, kind_at, count_of, count_
 use Rattle.pk_graph.specs.Kinds as kinds
 use Rattle.pk_graph.specs.Steps.{Numbers, number_at}
 use Rattle.pk_graph.specs.Stores.{Stored, numbers_of, IsStore}
-use Rattle.pk_state.specs.Layouts.{Layout, type_at, further_at, is_spread, slot_from, slot_of}
-use Rattle.pk_transfer.specs.Slots.{are_few, is_small, further_count, further_types, slot_types, further_from, further_of, HasSlots, own_slot, further_slots, spread}
+use Rattle.pk_octagons.specs.Values.{type_at}
+use Rattle.pk_state.specs.Layouts.{Layout, further_at, is_spread, slot_from, slot_of}
+use Rattle.pk_transfer.specs.Slots.{are_few, is_small, further_count, further_types, further_from, HasSlots, own_slot, further_slots, spread}
 use Rattle.pk_transfer.specs.Trees.{IsOver}
 
 -- ---- lists of lists, one behind another
@@ -119,7 +120,7 @@ module _ (ks : Kinds) (y : Layout) (over : IsOver ks y) where
   pub own_there : (x : ℕ) → x < length ks → x < length y.types
   own_there x h = omega (arith, h, slots_many)
 
-  pub own_type : (x : ℕ) → x < length ks → type_at y x ≡ kinds.type_at ks x
+  pub own_type : (x : ℕ) → x < length ks → type_at y.types x ≡ kinds.type_at ks x
   own_type x h =
       ap (λ (ts : List IntType). slice_index_or ts x Int) over.types
       ∙ get_or-append (map (λ (k : Kind). k.int_type) ks) (flat_map further_types ks) Int x (omega (arith, h, own_many))
@@ -158,7 +159,7 @@ module _ (ks : Kinds) (y : Layout) (over : IsOver ks y) where
   small_count : (x : ℕ) → is_small (kind_at ks x).length ≡ true → length (further_types (kind_at ks x)) ≡ count_at ks x - 1
   small_count x e = further_length (kind_at ks x) ∙ (small_is (kind_at ks x).length e).0
 
-  further_type : (x i : ℕ) → x < length ks → is_small (kind_at ks x).length ≡ true → suc i < count_at ks x → type_at y (length ks + (begin further_types ks x + i)) ≡ kinds.type_at ks x
+  further_type : (x i : ℕ) → x < length ks → is_small (kind_at ks x).length ≡ true → suc i < count_at ks x → type_at y.types (length ks + (begin further_types ks x + i)) ≡ kinds.type_at ks x
   further_type x i h e p =
       let many = own_many in
       let inside : i < length (further_types (kind_at ks x)) = omega (arith, p, small_count x e) in
@@ -180,13 +181,13 @@ module _ (ks : Kinds) (y : Layout) (over : IsOver ks y) where
       by true e zero p = subst (λ j. j < length y.types) (sym (slot_first x)) (own_there x h)
       by true e (suc i) p = subst (λ j. j < length y.types) (sym (slot_further x i h e)) (further_slot_there x i h e p)
 
-  pub slot_type : (x i : ℕ) → x < length ks → i < count_at ks x → type_at y (slot_of y x i) ≡ kinds.type_at ks x
+  pub slot_type : (x i : ℕ) → x < length ks → i < count_at ks x → type_at y.types (slot_of y x i) ≡ kinds.type_at ks x
   slot_type x i h p = by (is_small (kind_at ks x).length) refl i p
     where
-      by : (b : Bool) → is_small (kind_at ks x).length ≡ b → (i : ℕ) → i < count_at ks x → type_at y (slot_of y x i) ≡ kinds.type_at ks x
-      by false e i p = ap (type_at y) (slot_large x i h e) ∙ own_type x h
-      by true e zero p = ap (type_at y) (slot_first x) ∙ own_type x h
-      by true e (suc i) p = ap (type_at y) (slot_further x i h e) ∙ further_type x i h e p
+      by : (b : Bool) → is_small (kind_at ks x).length ≡ b → (i : ℕ) → i < count_at ks x → type_at y.types (slot_of y x i) ≡ kinds.type_at ks x
+      by false e i p = ap (type_at y.types) (slot_large x i h e) ∙ own_type x h
+      by true e zero p = ap (type_at y.types) (slot_first x) ∙ own_type x h
+      by true e (suc i) p = ap (type_at y.types) (slot_further x i h e) ∙ further_type x i h e p
 
   pub has_slots : (x : ℕ) → x < length ks → HasSlots y x (count_at ks x)
   has_slots x h = record {

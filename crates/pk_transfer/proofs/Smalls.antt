@@ -1,10 +1,8 @@
 -- What is written to a variable each of whose numbers has a slot, and what is read there.
-use Rattle.std.specs.Prelude.{◌≡◌, ◌≢◌, ◌⊎◌, ℕ, zero, suc, ◌+◌, ◌-◌, ◌*◌, ◌<◌, ◌≤◌, Bool, true, false, ◌&&◌, ◌||◌, if◌then◌else◌, ℤ, pos, ◌-ℤ◌, ◌≤ℤ◌, int_le, unsigned_abs, List, [], ◌∷◌, length, slice_get, slice_index_or, slice_set, Option, Some, None}
-use Rattle.std.specs.Ordering.{int_eq}
+use Rattle.std.specs.Prelude.{◌≡◌, ◌≢◌, ◌⊎◌, ℕ, zero, suc, ◌<◌, ◌≤◌, Bool, true, false, ◌&&◌, ◌||◌, if◌then◌else◌, ℤ, pos, ◌-ℤ◌, int_le, List, [], ◌∷◌, length, slice_set, Option, Some, None}
 use Rattle.std.proofs.Common.{arith, refl, ap, sym, subst, ◌∙◌, inl, inr, length-set}
 use Rattle.std.proofs.lemmas.Int.{ints}
 use Rattle.std.proofs.lemmas.Bool.{cases_eq, cases_lt}
-use Rattle.std.proofs.lemmas.Bool.Decides.{nat_tests}
 use Rattle.std.proofs.lemmas.List.{get_or-set_same, get_or-set_other}
 use Rattle.pk_ctypes.proofs.Values.{test_le, le_test}
 use Rattle.pk_ctypes.proofs.Small.{both_true}
@@ -16,23 +14,23 @@ use Rattle.pk_congr.proofs.Order.{member}
 use Rattle.pk_congr.proofs.Numbers.{rest_member}
 use Rattle.pk_graph.specs.Kinds.{Kinds, kind_at, count_at}
 use Rattle.pk_graph.specs.Steps.{Numbers, number_at}
-use Rattle.pk_graph.specs.Stores.{Stored, numbers_of}
-use Rattle.pk_value.specs.Known.{Known, exactly, joined, is_within, IsOf, IsOneOf}
+use Rattle.pk_graph.specs.Stores.{Stored, numbers_of, number_of}
+use Rattle.pk_value.specs.Known.{Known, joined, IsOf, IsOneOf}
 use Rattle.pk_value.specs.Values.{is_constant}
 use Rattle.pk_value.proofs.Orders.{lattice}
 use Rattle.pk_value.proofs.Sound.{equal_by_test}
-use Rattle.pk_octmat.specs.Octagon.{entry, Meets}
-use Rattle.pk_state.specs.Layouts.{Layout, IsLayout, chosen_at, slot_of}
-use Rattle.pk_state.specs.Facts.{Facts, known_at, AreFactsIf}
-use Rattle.pk_state.specs.Members.{selected, number_if, AreOf, Member}
+use Rattle.pk_octagons.specs.Values.{known_at}
+use Rattle.pk_octagons.specs.Members.{MeetAll, IsChosen}
+use Rattle.pk_octagons.proofs.Lists.{known_same, known_other}
+use Rattle.pk_octagons.proofs.Chosen.{meet_same}
+use Rattle.pk_state.specs.Layouts.{Layout, slot_of}
+use Rattle.pk_state.specs.Facts.{Facts}
+use Rattle.pk_state.specs.Members.{Member}
 use Rattle.pk_state.specs.Changes.{known_in, with_known}
-use Rattle.pk_state.proofs.Bounded.{known_same, known_other}
-use Rattle.pk_state.proofs.Changed.{chosen_is, meets_same}
 use Rattle.pk_transfer.specs.Slots.{is_small, own_slot, spread}
 use Rattle.pk_transfer.specs.Trees.{IsOver}
-use Rattle.pk_transfer.specs.Assignments.{with_known_if}
 use Rattle.pk_transfer.specs.Transfers.{may_be, may_be_below, either, known_below, stored_at, stored_below, known_each}
-use Rattle.pk_transfer.proofs.Slotting.{HasCounts, IsSlot, own, further, own_numbers, small_numbers, slot_first, slot_further, slot_there, slot_find, further_once, further_apart, slots_many}
+use Rattle.pk_transfer.proofs.Slotting.{HasCounts, IsSlot, own, further, own_numbers, small_numbers, slot_first, slot_further, slot_there, slot_find, further_once, further_apart}
 use Rattle.pk_transfer.proofs.Spreading.{counts_set}
 
 -- ---- an index
@@ -100,13 +98,13 @@ module _ (ks : Kinds) (y : Layout) (over : IsOver ks y) (x : ℕ) (here : x < le
   }
 
   -- a store in which the variable has other numbers is one of such facts, where they have these numbers
-  pub small_member : (s : Stored) (zs : Numbers) (f g : Facts) → HasCounts ks s → IsLayout y → length f.values ≡ length y.types → ((k : ℕ) → k < length y.chosen → chosen_at y k ≢ x) → ((k : ℕ) → k < length y.chosen → chosen_at y k < length ks)
-      → Member y (Some f) (spread s) → length zs ≡ count_at ks x → 0 < length zs → AreWritten f.values g.values → g.octagon ≡ f.octagon → ((i : ℕ) → i < count_at ks x → IsOf (known_at g.values (slot_of y x i)) (number_at zs i))
+  pub small_member : (s : Stored) (zs : Numbers) (f g : Facts) → HasCounts ks s → length f.values ≡ length y.types → ((z : ℕ) → IsChosen y.packs z → z ≢ x) → ((z : ℕ) → IsChosen y.packs z → z < length ks)
+      → Member y (Some f) (spread s) → length zs ≡ count_at ks x → 0 < length zs → AreWritten f.values g.values → g.octagons ≡ f.octagons → ((i : ℕ) → i < count_at ks x → IsOf (known_at g.values (slot_of y x i)) (number_at zs i))
       → Member y (Some g) (spread (slice_set s x zs))
-  small_member s zs f g st lay size apart there m long some w oct each = record {
+  small_member s zs f g st size apart there m long some w oct each = record {
     values = record { each = values_each; some = values_some };
-    scalars = λ k p. ap (λ (ns : Numbers). length ns) (others (chosen_at y k) (there k p) (apart k p)) ∙ m.scalars k p;
-    octagon = rw oct octagon;
+    scalars = λ z i. ap (λ (ns : Numbers). length ns) (others z (there z i) (apart z i)) ∙ m.scalars z i;
+    octagons = rw oct octagons;
   }
     where
       t : Stored
@@ -170,18 +168,8 @@ module _ (ks : Kinds) (y : Layout) (over : IsOver ks y) (x : ℕ) (here : x < le
       values_some : (j : ℕ) → j < length g.values → 0 < length (numbers_of (spread t) j)
       values_some j p = (holds j p).0
 
-      same_numbers : (k : ℕ) → selected y.chosen (spread s) k ≡ selected y.chosen (spread t) k
-      same_numbers k = by (slice_get y.chosen k) refl
-        where
-          by : (o : Option ℕ) → slice_get y.chosen k ≡ o → number_if (spread s) o ≡ number_if (spread t) o
-          by None e = refl
-          by (Some z) e =
-              let r = chosen_is y.chosen k z e in
-              let d : z ≢ x = λ same. apart k r.0 (r.1 ∙ same) in
-              ap (λ (ns : Numbers). number_at ns 0) (sym (others z (subst (λ n. n < length ks) r.1 (there k r.0)) d))
-
-      octagon : Meets (entry f.octagon) (selected y.chosen (spread t))
-      octagon = meets_same (entry f.octagon) (selected y.chosen (spread s)) (selected y.chosen (spread t)) same_numbers m.octagon
+      octagons : MeetAll y.packs f.octagons (number_of (spread t))
+      octagons = meet_same y.packs f.octagons (number_of (spread s)) (number_of (spread t)) (λ z i. ap (λ (ns : Numbers). number_at ns 0) (sym (others z (there z i) (apart z i)))) m.octagons
 
   -- ---- each number
 
@@ -190,7 +178,7 @@ module _ (ks : Kinds) (y : Layout) (over : IsOver ks y) (x : ℕ) (here : x < le
   each_values vs k zero = slice_set vs x k
   each_values vs k (suc i) = slice_set (each_values vs k i) (slot_of y x (suc i)) k
 
-  pub each_facts : (f : Facts) (k : Known) (n : ℕ) → known_each y (Some f) x k n ≡ Some (record { values = each_values f.values k n; octagon = f.octagon })
+  pub each_facts : (f : Facts) (k : Known) (n : ℕ) → known_each y (Some f) x k n ≡ Some (record { values = each_values f.values k n; octagons = f.octagons })
   each_facts f k zero = refl
   each_facts f k (suc i) = ap (λ (g : Option Facts). with_known g (slot_of y x (suc i)) k) (each_facts f k i)
 
@@ -228,19 +216,19 @@ module _ (ks : Kinds) (y : Layout) (over : IsOver ks y) (x : ℕ) (here : x < le
       if may_be k i then slice_set (some_values vs k v i) (slot_of y x i) (may_get (is_constant k) (known_at (some_values vs k v i) (slot_of y x i)) v)
       else some_values vs k v i
 
-  stored_one : (f : Facts) (j : ℕ) (surely : Bool) (v : Known) → stored_at (Some f) j surely v ≡ Some (record { values = slice_set f.values j (may_get surely (known_at f.values j) v); octagon = f.octagon })
+  stored_one : (f : Facts) (j : ℕ) (surely : Bool) (v : Known) → stored_at (Some f) j surely v ≡ Some (record { values = slice_set f.values j (may_get surely (known_at f.values j) v); octagons = f.octagons })
   stored_one f j true v = refl
   stored_one f j false v = refl
 
-  pub some_facts : (f : Facts) (k v : Known) (n : ℕ) → stored_below y (Some f) x k v n ≡ Some (record { values = some_values f.values k v n; octagon = f.octagon })
+  pub some_facts : (f : Facts) (k v : Known) (n : ℕ) → stored_below y (Some f) x k v n ≡ Some (record { values = some_values f.values k v n; octagons = f.octagons })
   some_facts f k v zero = refl
   some_facts f k v (suc i) = by (some_facts f k v i) (may_be k i)
     where
-      by : stored_below y (Some f) x k v i ≡ Some (record { values = some_values f.values k v i; octagon = f.octagon }) → (b : Bool) → (if b then stored_at (stored_below y (Some f) x k v i) (slot_of y x i) (is_constant k) v else stored_below y (Some f) x k v i)
-          ≡ Some (record { values = if b then slice_set (some_values f.values k v i) (slot_of y x i) (may_get (is_constant k) (known_at (some_values f.values k v i) (slot_of y x i)) v) else some_values f.values k v i; octagon = f.octagon })
+      by : stored_below y (Some f) x k v i ≡ Some (record { values = some_values f.values k v i; octagons = f.octagons }) → (b : Bool) → (if b then stored_at (stored_below y (Some f) x k v i) (slot_of y x i) (is_constant k) v else stored_below y (Some f) x k v i)
+          ≡ Some (record { values = if b then slice_set (some_values f.values k v i) (slot_of y x i) (may_get (is_constant k) (known_at (some_values f.values k v i) (slot_of y x i)) v) else some_values f.values k v i; octagons = f.octagons })
       by before true =
           ap (λ (g : Option Facts). stored_at g (slot_of y x i) (is_constant k) v) before
-          ∙ stored_one (record { values = some_values f.values k v i; octagon = f.octagon }) (slot_of y x i) (is_constant k) v
+          ∙ stored_one (record { values = some_values f.values k v i; octagons = f.octagons }) (slot_of y x i) (is_constant k) v
       by before false = before
 
   below_count : (m : ℕ) → (suc m < count_at ks x) ⊎ (suc m ≡ count_at ks x) → m < count_at ks x

@@ -1,5 +1,5 @@
 -- Stores slot by slot: their trees, and what is written to a variable with one slot.
-use Rattle.std.specs.Prelude.{◌≡◌, ◌≢◌, ◌⊎◌, ℕ, zero, suc, ◌-◌, ◌<◌, Bool, true, false, if◌then◌else◌, ℤ, pos, List, [], ◌∷◌, ◌++◌, length, map, take, drop, slice_index_or, slice_set, Option, Some, None, Result, Ok}
+use Rattle.std.specs.Prelude.{◌≡◌, ◌≢◌, ◌⊎◌, ℕ, zero, suc, ◌<◌, false, ℤ, List, [], ◌∷◌, ◌++◌, length, map, slice_set, Option, Some, None, Result, Ok}
 use Rattle.std.specs.List.{flat_map}
 use Rattle.std.proofs.Common.{arith, refl, ap, sym, ◌∙◌, inl, inr, length-set}
 use Rattle.std.proofs.lemmas.List.{length-map, map-set, set-append_left, get_or-set_same, get_or-set_other}
@@ -11,7 +11,7 @@ use Rattle.pk_graph.specs.Kinds.{Kinds, kind_at, count_of, count_at, IsScalar, I
 use Rattle.pk_graph.specs.Steps.{Numbers, number_at, Failure, at_site, and_then, tree_value}
 use Rattle.pk_graph.specs.Stores.{Stored, storing, numbers_of}
 use Rattle.pk_state.specs.Layouts.{Layout}
-use Rattle.pk_transfer.specs.Slots.{are_few, is_small, own_slot, further_slots, spread}
+use Rattle.pk_transfer.specs.Slots.{is_small, own_slot, further_slots, spread}
 use Rattle.pk_transfer.specs.Trees.{IsOver}
 use Rattle.pk_transfer.proofs.Slotting.{HasCounts, first_kept, own_numbers, large_numbers, many_counted, rest_length, counted, large_is}
 

@@ -23,16 +23,17 @@ use Rattle.pk_graph.specs.Stores.{Stored, storing, numbers_of}
 use Rattle.pk_value.specs.Known.{Known, IsOf, IsKnown, exactly}
 use Rattle.pk_value.specs.Values as values
 use Rattle.pk_value.proofs.Sound.{Knows, knows_one, exactly_knows, operated_knows, converted_knows}
-use Rattle.pk_state.specs.Layouts.{Layout, type_at}
+use Rattle.pk_octagons.specs.Values.{type_at, IsValue}
+use Rattle.pk_state.specs.Layouts.{Layout}
 use Rattle.pk_state.specs.Facts.{Facts, AreFactsIf}
 use Rattle.pk_state.specs.Members.{Member}
-use Rattle.pk_state.specs.Changes.{known_in, IsValue}
+use Rattle.pk_state.specs.Changes.{known_in}
 use Rattle.pk_transfer.specs.Trees.{known_with, tree_known, kind_of, kinds_of, IsOver, TreesAreSound}
 use Rattle.pk_transfer.proofs.Slotting.{own_there, own_type}
 
 -- ---- types
 
-pub kinds_type : (l : Layout) (x : ℕ) → kinds.type_at (kinds_of l) x ≡ type_at l x
+pub kinds_type : (l : Layout) (x : ℕ) → kinds.type_at (kinds_of l) x ≡ type_at l.types x
 kinds_type l x = ap (λ (k : Kind). k.int_type) (get_or-map kind_of l.types x Int)
 
 -- ---- values
@@ -96,7 +97,7 @@ value_from t None i c s = tt
 value_from t (Some k) i c s = record { inside = i; some = s; class = c.reduced }
 
 -- a variable's number
-variable_knows : (l : Layout) (f : Option Facts) (s : Stored) (x : ℕ) → AreFactsIf l f → Member l f s → x < length l.types → Knows (type_at l x) (known_in f x) (number_at (numbers_of s x) 0)
+variable_knows : (l : Layout) (f : Option Facts) (s : Stored) (x : ℕ) → AreFactsIf l f → Member l f s → x < length l.types → Knows (type_at l.types x) (known_in f x) (number_at (numbers_of s x) 0)
 variable_knows l None s x h m p = absurd m
 variable_knows l (Some f) s x h m p =
     let here : x < length f.values = omega (arith, p, h.values.size) in

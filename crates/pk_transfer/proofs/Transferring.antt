@@ -18,22 +18,24 @@ use Rattle.pk_graph.specs.Kinds.{Kinds, kind_at, count_at, count_of, IsScalar, I
 use Rattle.pk_graph.specs.Steps.{Numbers, number_at, Failure, failure, and_then, tree_value, is_true, is_index, indexed, all_in_type, are_any, After, To, Wants, Faulted, with_value, passed, effect}
 use Rattle.pk_graph.specs.Stores.{Stored, storing, numbers_of, IsStore}
 use Rattle.pk_value.specs.Known.{Known, any_of, exactly, joined, IsOf, IsOneOf}
-use Rattle.pk_value.specs.Values.{is_constant}
 use Rattle.pk_value.proofs.Orders.{lattice}
-use Rattle.pk_state.specs.Layouts.{Layout, IsLayout, chosen_at, place_in, is_spread, slot_of}
-use Rattle.pk_state.specs.Facts.{Facts, known_at, AreFactsIf}
+use Rattle.pk_octagons.specs.Packs.{is_chosen}
+use Rattle.pk_octagons.specs.Values.{known_at}
+use Rattle.pk_octagons.specs.Members.{IsChosen}
+use Rattle.pk_octagons.proofs.Chosen.{chosen_there, chosen_apart}
+use Rattle.pk_state.specs.Layouts.{Layout, IsLayout, is_spread}
+use Rattle.pk_state.specs.Facts.{Facts, AreFactsIf}
 use Rattle.pk_state.specs.Members.{Member}
 use Rattle.pk_state.specs.Changes.{known_in, with_known, IsApart}
-use Rattle.pk_state.proofs.Changed.{changes_sound, chosen_is}
+use Rattle.pk_state.proofs.Changed.{changes_sound}
 use Rattle.pk_transfer.specs.Slots.{is_small, own_slot, spread}
 use Rattle.pk_transfer.specs.Trees.{tree_known, IsOver}
-use Rattle.pk_transfer.specs.Assignments.{with_form_at, with_known_if}
+use Rattle.pk_transfer.specs.Assignments.{with_form}
 use Rattle.pk_transfer.specs.Transfers.{forgotten_in, at_index, may_be_below, known_below, stored_at, stored_below, known_each, all_known, all_forgotten, loaded, stored, applied, TransfersKeep}
 use Rattle.pk_transfer.proofs.Told.{trees_sound}
-use Rattle.pk_transfer.proofs.Forms.{place_at}
-use Rattle.pk_transfer.proofs.Assigning.{no_place, placed, assignments_keep}
+use Rattle.pk_transfer.proofs.Assigning.{form_apart, placed, assignments_keep}
 use Rattle.pk_transfer.proofs.Passing.{guards_pass}
-use Rattle.pk_transfer.proofs.Slotting.{HasCounts, counts_of, own_there, spread_is, own_numbers, large_numbers}
+use Rattle.pk_transfer.proofs.Slotting.{counts_of, own_there, spread_is, own_numbers, large_numbers}
 use Rattle.pk_transfer.proofs.Spreading.{tree_spread, scalar_large, spread_set}
 use Rattle.pk_transfer.proofs.Smalls.{may_be_is, may_be_below_is, small_member, each_facts, each_written, each_known, some_facts, some_written, some_holds, number_known, below_known}
 
@@ -56,9 +58,9 @@ then_place (Err f) g k e = absurd (cc)
 there_in : (ks : Kinds) (y : Layout) (x : ℕ) → IsOver ks y → x < length ks → x < length y.types
 there_in ks y x o p = own_there ks y o x p
 
--- an array is none of the octagon's variables
+-- no octagon is over an array
 array_apart : (ks : Kinds) (y : Layout) (a : ArrayOf ℕ) → IsOver ks y → IsArray ks a → IsApart y a.variable
-array_apart ks y a o h = λ j p same. let none = (o.scalars j p).scalar in let some = ap (λ x. (kind_at ks x).length) same ∙ h.array in absurd (cc)
+array_apart ks y a o h = λ i. let none = (o.scalars a.variable i).scalar in let some = h.array in absurd (cc)
 
 counts : (ks : Kinds) (s : Stored) (a : ArrayOf ℕ) → IsStore ks s → IsArray ks a → length (numbers_of s a.variable) ≡ a.length
 counts ks s a st h = st.counts a.variable h.there ∙ ap count_of h.array
@@ -125,23 +127,21 @@ record AreNumbersIf (o : Option Known) (zs : Numbers) : Type 0 where
 forgotten_keeps : (ks : Kinds) (y : Layout) (f : Option Facts) (s : Stored) (x : ℕ) (o : Option Known) (zs : Numbers) → IsOver ks y → IsLayout y → AreFactsIf y f → Member y f s → x < length ks → ((kind_at ks x).length ≡ None → length zs ≡ 1) → AreNumbersIf o zs
     → Member y (forgotten_in y f x o) (slice_set s x zs)
 forgotten_keeps ks y f s x None zs over lay a m p sc n = absurd (n.each 0 n.some)
-forgotten_keeps ks y f s x (Some k) zs over lay a m p sc n = go (place_in y.chosen x) refl
+forgotten_keeps ks y f s x (Some k) zs over lay a m p sc n = go (is_chosen y.packs x) refl
   where
-    go : (q : Option ℕ) → place_in y.chosen x ≡ q → Member y (with_known (with_form_at f (place_in y.chosen x) None) x k) (slice_set s x zs)
-    go None e =
-        subst (λ q. Member y (with_known (with_form_at f q None) x k) (slice_set s x zs)) (sym e)
-        (changes_sound.written y f s x k zs a m lay (there_in ks y x over p) (no_place y.chosen x e) (record { each = n.each; some = n.some }))
-    go (Some j) e =
-        let r = chosen_is y.chosen j x (place_at y.chosen x j e) in
-        let scalar : (kind_at ks x).length ≡ None = subst (λ v. (kind_at ks v).length ≡ None) r.1 (over.scalars j r.0).scalar in
-        let one = one_of zs (sc scalar) in
-        subst (λ ws. Member y (with_known (with_form_at f (place_in y.chosen x) None) x k) (slice_set s x ws)) (sym one.1)
-        (placed y f s x None one.0 k lay a m (there_in ks y x over p) tt (subst (λ ws. IsOf k (number_at ws 0)) one.1 (n.each 0 n.some)))
+    go : (b : Bool) → is_chosen y.packs x ≡ b → Member y (with_known (with_form y f x None []) x k) (slice_set s x zs)
+    go false e =
+        subst (λ (g : Option Facts). Member y (with_known g x k) (slice_set s x zs)) (sym (form_apart y f x None [] a e))
+        (changes_sound.written y f s x k zs a m (there_in ks y x over p) (chosen_apart y.packs x e) (record { each = n.each; some = n.some }))
+    go true e =
+        let one = one_of zs (sc (over.scalars x (chosen_there y.packs x e)).scalar) in
+        subst (λ ws. Member y (with_known (with_form y f x None []) x k) (slice_set s x ws)) (sym one.1)
+        (placed y f s x None [] one.0 k lay a m (there_in ks y x over p) tt (subst (λ ws. IsOf k (number_at ws 0)) one.1 (n.each 0 n.some)))
 
 stored_keeps : (ks : Kinds) (y : Layout) (f : Facts) (s : Stored) (b : ArrayOf ℕ) (w : Known) (k : ℕ) (v : ℤ) → IsOver ks y → IsLayout y → AreFactsIf y (Some f) → Member y (Some f) s → IsArray ks b → AreNumbersIf (known_in (Some f) b.variable) (numbers_of s b.variable) → IsOf w v → k < length (numbers_of s b.variable)
     → Member y (stored_at (Some f) b.variable false w) (slice_set s b.variable (slice_set (numbers_of s b.variable) k v))
 stored_keeps ks y f s b w k v over lay a m h old new p =
-    changes_sound.written y (Some f) s b.variable (joined c w) (slice_set zs k v) a m lay (there_in ks y b.variable over h.there) (array_apart ks y b over h)
+    changes_sound.written y (Some f) s b.variable (joined c w) (slice_set zs k v) a m (there_in ks y b.variable over h.there) (array_apart ks y b over h)
     (record { each = λ i q. at i (omega (arith, q, length-set zs k v)) (cases_eq i k); some = omega (arith, old.some, length-set zs k v) })
   where
     zs : Numbers
@@ -173,11 +173,11 @@ module _ (ks : Kinds) (y : Layout) (f : Facts) (s : Stored) (over : IsOver ks y)
   sized : length f.values ≡ length y.types
   sized = a.values.size
 
-  chosen_apart : (k : ℕ) → k < length y.chosen → chosen_at y k ≢ x
-  chosen_apart k p same = not_scalar (kind_at ks x).length small (ap (λ n. (kind_at ks n).length) (sym same) ∙ (over.scalars k p).scalar)
+  others : (z : ℕ) → IsChosen y.packs z → z ≢ x
+  others z i same = not_scalar (kind_at ks x).length small (ap (λ n. (kind_at ks n).length) (sym same) ∙ (over.scalars z i).scalar)
 
-  chosen_there : (k : ℕ) → k < length y.chosen → chosen_at y k < length ks
-  chosen_there k p = (over.scalars k p).there
+  there : (z : ℕ) → IsChosen y.packs z → z < length ks
+  there z i = (over.scalars z i).there
 
   old_some : 0 < length (numbers_of s x)
   old_some = own_some (numbers_of s x) (subst (λ (ns : Numbers). 0 < length ns) (own_numbers s x (omega (arith, here, st.size))) (m.values.some x (omega (arith, sized, there_in ks y x over here))))
@@ -191,7 +191,7 @@ module _ (ks : Kinds) (y : Layout) (f : Facts) (s : Stored) (over : IsOver ks y)
   each_member zs k n count long each =
       let some : n - 1 < count_at ks x = omega (arith, old_some, count, st.counts x here) in
       subst (λ (g : Option Facts). Member y g (spread (slice_set s x zs))) (sym (each_facts ks y over x here small f k (n - 1)))
-      (small_member ks y over x here small s zs f (record { values = _; octagon = f.octagon }) (counts_of ks s st) lay sized chosen_apart chosen_there m (long ∙ count) (omega (arith, some, long, count))
+      (small_member ks y over x here small s zs f (record { values = _; octagons = f.octagons }) (counts_of ks s st) sized others there m (long ∙ count) (omega (arith, some, long, count))
       (each_written ks y over x here small f.values k (n - 1) some) refl
       (λ i p. rw (each_known ks y over x here small f.values k (n - 1) i sized some (omega (arith, p, count))) (each i (omega (arith, p, long, count)))))
 
@@ -201,7 +201,7 @@ module _ (ks : Kinds) (y : Layout) (f : Facts) (s : Stored) (over : IsOver ks y)
       let zs = numbers_of s x in
       let long : length (slice_set zs p w) ≡ count_at ks x = length-set zs p w ∙ st.counts x here in
       subst (λ (g : Option Facts). Member y g (spread (slice_set s x (slice_set zs p w)))) (sym (some_facts ks y over x here small f k v (count_at ks x)))
-      (small_member ks y over x here small s (slice_set zs p w) f (record { values = _; octagon = f.octagon }) (counts_of ks s st) lay sized chosen_apart chosen_there m long (omega (arith, old_some, long, st.counts x here))
+      (small_member ks y over x here small s (slice_set zs p w) f (record { values = _; octagons = f.octagons }) (counts_of ks s st) sized others there m long (omega (arith, old_some, long, st.counts x here))
       (some_written ks y over x here small f.values k v (count_at ks x) (inr refl)) refl
       (some_holds ks y over x here small zs f.values k v p w sized kp vw (st.counts x here) (omega (arith, inside, st.counts x here)) (λ i q. number_known ks y over x here small s f i (counts_of ks s st) sized m q)))
 
@@ -258,7 +258,7 @@ all_keep ks y (Some f) s b k zs over st lay a m h long each =
     large e =
         let old = large_known ks y (Some f) s x over st a m h.there e in
         subst (Member y (with_known (Some f) x k)) (sym (spread_set ks s x zs (counts_of ks s st) h.there e (long ∙ sym count)))
-        (changes_sound.written y (Some f) (spread s) x k zs a m lay (there_in ks y x over h.there) (array_apart ks y b over h) (record { each = each; some = omega (arith, old.some, long, count, st.counts x h.there) }))
+        (changes_sound.written y (Some f) (spread s) x k zs a m (there_in ks y x over h.there) (array_apart ks y b over h) (record { each = each; some = omega (arith, old.some, long, count, st.counts x h.there) }))
 
 -- a variable gets any numbers of a type
 any_keep : (ks : Kinds) (y : Layout) (f : Option Facts) (s : Stored) (x n : ℕ) (k : Known) (zs : Numbers) → IsOver ks y → IsStore ks s → IsLayout y → AreFactsIf y f → Member y f (spread s) → x < length ks → count_at ks x ≡ n → length zs ≡ n → ((i : ℕ) → i < length zs → IsOf k (number_at zs i))

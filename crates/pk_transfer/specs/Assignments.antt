@@ -5,12 +5,12 @@ use Rattle.pk_graph.specs.Kinds.{IsTyped, IsScalar}
 use Rattle.pk_graph.specs.Steps.{tree_value}
 use Rattle.pk_graph.specs.Stores.{Stored, storing}
 use Rattle.pk_value.specs.Known.{Known}
-use Rattle.pk_state.specs.Layouts.{Layout, IsLayout, place_in}
+use Rattle.pk_state.specs.Layouts.{Layout, IsLayout}
 use Rattle.pk_state.specs.Facts.{Facts, Stated, AreFactsIf}
 use Rattle.pk_state.specs.Members.{Member}
 use Rattle.pk_state.specs.Changes.{known_in, with_known, assigned_in}
 use Rattle.pk_transfer.specs.Trees.{tree_known, kinds_of}
-use Rattle.pk_transfer.specs.Linear.{Linear, linear}
+use Rattle.pk_transfer.specs.Linear.{Linear, variables_of, linear}
 
 -- a state in place of another: of its layout, with these facts
 abbrev pub HasFacts : Stated → Option Facts → Stated → Type 0
@@ -22,15 +22,10 @@ term_of [] = None
 term_of (p ∷ []) = Some p
 term_of (p ∷ (q ∷ ps)) = None
 
--- the octagon's variable k gets the form's number, if it is one term and a constant, else any
-abbrev pub with_form : Option Facts → ℕ → Option Linear → Option Facts
-with_form f k None = assigned_in f k None (pos 0)
-with_form f k (Some l) = assigned_in f k (term_of l.places) l.constant
-
--- the same of a variable at a place of the octagon, if it has one
-abbrev pub with_form_at : Option Facts → Option ℕ → Option Linear → Option Facts
-with_form_at f None l = f
-with_form_at f (Some k) l = with_form f k l
+-- Variable x gets the form's number, if it is one term and a constant, else any, in each octagon that is over it: any in one that isn't over each variable that is read.
+abbrev pub with_form : Layout → Option Facts → ℕ → Option Linear → List ℕ → Option Facts
+with_form y f x None over = assigned_in y f x None (pos 0) []
+with_form y f x (Some l) over = assigned_in y f x (term_of l.places) l.constant over
 
 abbrev pub with_known_if : Option Facts → ℕ → Option Known → Option Facts
 with_known_if f x None = None
@@ -39,8 +34,7 @@ with_known_if f x (Some k) = with_known f x k
 -- A variable gets a tree's value.
 abbrev pub set_in : Layout → Option Facts → ℕ → TreeOf ℕ → Option Facts
 set_in y f x e =
-    with_known_if (with_form_at f (place_in y.chosen x) (linear y.chosen (known_in f) e)) x
-    (tree_known (known_in f) e)
+    with_known_if (with_form y f x (linear y.packs (known_in f) e) (variables_of e)) x (tree_known (known_in f) e)
 
 -- A store of a state in which a scalar gets a typed tree's value is one of the state after the assignment.
 abbrev pub AssignmentsKeep : Type 0

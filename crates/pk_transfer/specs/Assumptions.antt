@@ -1,5 +1,5 @@
 -- What is known where a guard passes.
-use Rattle.std.specs.Prelude.{◌≡◌, ℕ, Bool, ℤ, pos, ◌-ℤ◌, List, [], ◌∷◌, Option, Some, None, Ok}
+use Rattle.std.specs.Prelude.{◌≡◌, ℕ, Bool, ℤ, pos, ◌-ℤ◌, List, [], ◌∷◌, ◌++◌, Option, Some, None, Ok}
 use Rattle.pk_ctypes.specs.declared.types.Op.{Op}
 use Rattle.pk_ctypes.specs.declared.types.Op.TheVariants.{Lt, Gt, Le, Ge, Eq}
 use Rattle.pk_graph.specs.Trees.{TreeOf, variable}
@@ -13,33 +13,34 @@ use Rattle.pk_state.specs.Members.{Member}
 use Rattle.pk_state.specs.Changes.{known_in, guarded_in}
 use Rattle.pk_transfer.specs.Slots.{spread}
 use Rattle.pk_transfer.specs.Trees.{known_with, tree_known, IsOver}
-use Rattle.pk_transfer.specs.Linear.{Linear, difference, linear}
+use Rattle.pk_transfer.specs.Linear.{Linear, difference, variables_of, linear}
 use Rattle.pk_transfer.specs.Assignments.{with_known_if}
 use Rattle.pk_transfer.specs.Guards.{Condition, condition_of, flipped, refined}
 
--- ---- the octagon
+-- ---- the octagons
 
--- the sum of at most two places is at most c
-abbrev pub places_in : Option Facts → List ℕ → ℤ → Option Facts
-places_in f [] c = guarded_in f None None c
-places_in f (a ∷ []) c = guarded_in f (Some a) None c
-places_in f (a ∷ (b ∷ [])) c = guarded_in f (Some a) (Some b) c
-places_in f (a ∷ (b ∷ (d ∷ ps))) c = f
+-- the sum of at most two places is at most c, in each octagon that is over each variable that is read
+abbrev pub places_in : Layout → Option Facts → List ℕ → ℤ → List ℕ → Option Facts
+places_in y f [] c over = guarded_in y f None None c over
+places_in y f (a ∷ []) c over = guarded_in y f (Some a) None c over
+places_in y f (a ∷ (b ∷ [])) c over = guarded_in y f (Some a) (Some b) c over
+places_in y f (a ∷ (b ∷ (d ∷ ps))) c over = f
 
 -- l and n are at most r
-abbrev pub le_in : Option Facts → Option Linear → Option Linear → ℤ → Option Facts
-le_in f None r n = f
-le_in f (Some l) None n = f
-le_in f (Some l) (Some r) n = places_in f (difference l r).places ((r.constant -ℤ n) -ℤ l.constant)
+abbrev pub le_in : Layout → Option Facts → Option Linear → Option Linear → ℤ → List ℕ → Option Facts
+le_in y f None r n over = f
+le_in y f (Some l) None n over = f
+le_in y f (Some l) (Some r) n over =
+    places_in y f (difference l r).places ((r.constant -ℤ n) -ℤ l.constant) over
 
 -- a comparison of two forms holds
-abbrev pub compared_in : Op → Option Facts → Option Linear → Option Linear → Option Facts
-compared_in Lt f l r = le_in f l r (pos 1)
-compared_in Gt f l r = le_in f r l (pos 1)
-compared_in Le f l r = le_in f l r (pos 0)
-compared_in Ge f l r = le_in f r l (pos 0)
-compared_in Eq f l r = le_in (le_in f l r (pos 0)) r l (pos 0)
-compared_in op f l r = f
+abbrev pub compared_in : Op → Layout → Option Facts → Option Linear → Option Linear → List ℕ → Option Facts
+compared_in Lt y f l r over = le_in y f l r (pos 1) over
+compared_in Gt y f l r over = le_in y f r l (pos 1) over
+compared_in Le y f l r over = le_in y f l r (pos 0) over
+compared_in Ge y f l r over = le_in y f r l (pos 0) over
+compared_in Eq y f l r over = le_in y (le_in y f l r (pos 0) over) r l (pos 0) over
+compared_in op y f l r over = f
 
 -- ---- the operands
 
@@ -63,7 +64,8 @@ refined_in f c (Some k) (Some v) =
 abbrev pub holds_in : Layout → Option Facts → Condition → Option Facts
 holds_in y f c =
     let g = known_in f in
-    refined_in (compared_in c.op f (linear y.chosen g c.left) (linear y.chosen g c.right)) c (tree_known g c.left)
+    let over = variables_of c.left ++ variables_of c.right in
+    refined_in (compared_in c.op y f (linear y.packs g c.left) (linear y.packs g c.right) over) c (tree_known g c.left)
     (tree_known g c.right)
 
 -- A guard on a tree passes.

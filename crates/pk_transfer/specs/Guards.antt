@@ -15,7 +15,7 @@ use Rattle.pk_graph.specs.Steps.{is_true, tree_value}
 use Rattle.pk_graph.specs.Stores.{Stored, storing}
 use Rattle.pk_value.specs.Known.{Known, IsOf, IsOneOf}
 use Rattle.pk_value.specs.Values.{is_constant}
-use Rattle.pk_state.specs.Reduced.{with_range}
+use Rattle.pk_octagons.specs.Reduced.{with_range}
 
 -- ---- conditions
 

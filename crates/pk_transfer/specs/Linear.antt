@@ -1,5 +1,5 @@
--- Linear forms: a constant and at most two signed octagon variables.
-use Rattle.std.specs.Prelude.{◌≡◌, ◌≢◌, ℕ, ◌<◌, ◌-◌, ◌*◌, ◌^◌, ◌==◌, nat_le, Bool, ◌&&◌, ◌||◌, if◌then◌else◌, ℤ, pos, negsuc, ◌+ℤ◌, ◌-ℤ◌, ◌≤ℤ◌, neg_ℤ, int_le, int_lt, List, [], ◌∷◌, length, map, Option, Some, None, option_map, Ok}
+-- Linear forms: a constant and at most two signed variables of octagons. Place 2x is variable x, place 2x + 1 its negative.
+use Rattle.std.specs.Prelude.{◌≡◌, ◌≢◌, ℕ, ◌-◌, ◌*◌, ◌^◌, ◌==◌, nat_le, Bool, ◌&&◌, ◌||◌, if◌then◌else◌, ℤ, pos, negsuc, ◌+ℤ◌, ◌-ℤ◌, ◌≤ℤ◌, neg_ℤ, int_le, int_lt, List, [], ◌∷◌, ◌++◌, length, map, Option, Some, None, option_map, Ok}
 use Rattle.pk_ctypes.specs.declared.types.IntType.{IntType}
 use Rattle.pk_ctypes.specs.declared.types.Op.{Op}
 use Rattle.pk_ctypes.specs.declared.types.Op.TheVariants.{Add, Sub, Neg}
@@ -9,15 +9,17 @@ use Rattle.pk_interval.specs.declared.outcome.Outcome.TheVariants.{Empty, Within
 use Rattle.pk_interval.specs.Ranges.{Range}
 use Rattle.pk_interval.specs.Operators.{range_of}
 use Rattle.pk_octmat.specs.Octagon.{bar, side}
-use Rattle.pk_octops.specs.Guards.{IsGuard, Obeys}
+use Rattle.pk_octops.specs.Guards.{Obeys}
+use Rattle.pk_octagons.specs.Packs.{pack_at, is_chosen, is_over}
+use Rattle.pk_octagons.specs.Changes.{AreTerms}
 use Rattle.pk_graph.specs.Trees.{TreeOf, constant, variable, converted, unary, binary}
 use Rattle.pk_graph.specs.Kinds.{IsTyped}
 use Rattle.pk_graph.specs.Steps.{tree_value}
-use Rattle.pk_graph.specs.Stores.{Stored, storing}
+use Rattle.pk_graph.specs.Stores.{Stored, storing, number_of}
 use Rattle.pk_value.specs.Known.{Known}
-use Rattle.pk_state.specs.Layouts.{Layout, place_in}
+use Rattle.pk_state.specs.Layouts.{Layout}
 use Rattle.pk_state.specs.Facts.{Facts, AreFactsIf}
-use Rattle.pk_state.specs.Members.{selected, Member}
+use Rattle.pk_state.specs.Members.{Member}
 use Rattle.pk_state.specs.Changes.{known_in}
 use Rattle.pk_transfer.specs.Trees.{tree_known, kinds_of}
 
@@ -111,20 +113,29 @@ if_sum Add l m = l
 if_sum Sub l m = m
 if_sum op l m = None
 
--- The linear form of a tree over the chosen variables, where it has one and g says what is known of each variable.
-abbrev pub linear : List ℕ → (ℕ → Option Known) → TreeOf ℕ → Option Linear
-linear chosen g (constant t c) = Some (record { constant = c; places = [] })
-linear chosen g (variable x) = option_map (λ k. record { constant = pos 0; places = 2 * k ∷ [] }) (place_in chosen x)
-linear chosen g (converted t e) = where_known (tree_known g e) (λ k. is_inside t k.range) (linear chosen g e)
-linear chosen g (unary op s t e) =
-    if_negative op (where_known (tree_known g e) (λ k. is_exact Neg t k k) (option_map negative (linear chosen g e)))
-linear chosen g (binary op s t a b) =
-    if_sum op (where_both (tree_known g a) (tree_known g b) (is_exact Add t)
-    (both sum (linear chosen g a) (linear chosen g b)))
-    (where_both (tree_known g a) (tree_known g b) (is_exact Sub t)
-    (both difference (linear chosen g a) (linear chosen g b)))
+-- the variables that a tree reads
+abbrev pub variables_of : TreeOf ℕ → List ℕ
+variables_of (constant t c) = []
+variables_of (variable x) = x ∷ []
+variables_of (converted t e) = variables_of e
+variables_of (unary op s t e) = variables_of e
+variables_of (binary op s t a b) = variables_of a ++ variables_of b
 
--- the bound c on the sum of at most two places, as a guard of an octagon has it
+-- The linear form of a tree over the packs' variables, where it has one and g says what is known of each variable.
+abbrev pub linear : List (List ℕ) → (ℕ → Option Known) → TreeOf ℕ → Option Linear
+linear packs g (constant t c) = Some (record { constant = c; places = [] })
+linear packs g (variable x) =
+    if is_chosen packs x then Some (record { constant = pos 0; places = 2 * x ∷ [] }) else None
+linear packs g (converted t e) = where_known (tree_known g e) (λ k. is_inside t k.range) (linear packs g e)
+linear packs g (unary op s t e) =
+    if_negative op (where_known (tree_known g e) (λ k. is_exact Neg t k k) (option_map negative (linear packs g e)))
+linear packs g (binary op s t a b) =
+    if_sum op (where_both (tree_known g a) (tree_known g b) (is_exact Add t)
+    (both sum (linear packs g a) (linear packs g b)))
+    (where_both (tree_known g a) (tree_known g b) (is_exact Sub t)
+    (both difference (linear packs g a) (linear packs g b)))
+
+-- the bound c on the sum of at most two places, as a guard has it
 abbrev pub IsBounded : (ℕ → ℤ) → List ℕ → ℤ → Type 0
 IsBounded x [] c = Obeys x None None c
 IsBounded x (a ∷ []) c = Obeys x (Some a) None c
@@ -136,29 +147,33 @@ abbrev pub IsNone : ℕ → List ℕ → Type 0
 IsNone q [] = Unit {0}
 IsNone q (p ∷ ps) = (p ≢ q) × IsNone q ps
 
--- places of n variables, none the opposite of another
-abbrev pub ArePlaces : ℕ → List ℕ → Type 0
-ArePlaces n [] = Unit {0}
-ArePlaces n (p ∷ ps) = (p < 2 * n) × IsNone (bar p) ps × ArePlaces n ps
+-- none of the places is the opposite of another
+abbrev pub ArePlaces : List ℕ → Type 0
+ArePlaces [] = Unit {0}
+ArePlaces (p ∷ ps) = IsNone (bar p) ps × ArePlaces ps
 
-abbrev pub HasPlaces : ℕ → Option Linear → Type 0
-HasPlaces n None = Unit {0}
-HasPlaces n (Some l) = ArePlaces n l.places
+abbrev pub HasPlaces : Option Linear → Type 0
+HasPlaces None = Unit {0}
+HasPlaces (Some l) = ArePlaces l.places
 
 -- a guard on the places
-abbrev pub IsGuardOn : ℕ → List ℕ → Type 0
-IsGuardOn n [] = IsGuard n None None
-IsGuardOn n (a ∷ []) = IsGuard n (Some a) None
-IsGuardOn n (a ∷ (b ∷ [])) = IsGuard n (Some a) (Some b)
-IsGuardOn n (a ∷ (b ∷ (c ∷ ps))) = Unit {0}
+abbrev pub IsGuardOn : List ℕ → Type 0
+IsGuardOn [] = AreTerms None None
+IsGuardOn (a ∷ []) = AreTerms (Some a) None
+IsGuardOn (a ∷ (b ∷ [])) = AreTerms (Some a) (Some b)
+IsGuardOn (a ∷ (b ∷ (c ∷ ps))) = Unit {0}
 
 -- Where a typed tree has a value in a store of a state, and a linear form, the value is that of the form; where the left of two forms is at most the right, their
--- difference is bounded by that of the constants; and the difference of two trees' forms is a guard of the octagon.
+-- difference is bounded by that of the constants; and the difference of two trees' forms is a guard. By the variables of one pack, a tree has the same form where the pack has
+-- each variable that the tree reads, and else none.
 pub record FormsAreExact : Type 0 where
   pub values : (y : Layout) (f : Option Facts) (s : Stored) (e : TreeOf ℕ) (z : ℤ) (l : Linear) → AreFactsIf y f →
       Member y f s → IsTyped (kinds_of y) e → tree_value storing e s ≡ Ok z →
-      linear y.chosen (known_in f) e ≡ Some l → z ≡ linear_value (selected y.chosen s) l
+      linear y.packs (known_in f) e ≡ Some l → z ≡ linear_value (number_of s) l
   pub bounded : (x : ℕ → ℤ) (l r : Linear) → linear_value x l ≤ℤ linear_value x r →
       IsBounded x (difference l r).places (r.constant -ℤ l.constant)
-  pub guards : (chosen : List ℕ) (g : ℕ → Option Known) (d e : TreeOf ℕ) (l r : Linear) →
-      linear chosen g d ≡ Some l → linear chosen g e ≡ Some r → IsGuardOn (length chosen) (difference l r).places
+  pub guards : (packs : List (List ℕ)) (g : ℕ → Option Known) (d e : TreeOf ℕ) (l r : Linear) →
+      linear packs g d ≡ Some l → linear packs g e ≡ Some r → IsGuardOn (difference l r).places
+  pub by_pack : (packs : List (List ℕ)) (p : ℕ) (g : ℕ → Option Known) (e : TreeOf ℕ) →
+      linear (pack_at packs p ∷ []) g e
+      ≡ if is_over (variables_of e) (pack_at packs p) then linear packs g e else None

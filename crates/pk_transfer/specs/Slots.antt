@@ -1,11 +1,12 @@
 -- The slots of a table's variables, of each of which a state has a value: each variable has one, and of one with at most eight numbers each number has its own.
-use Rattle.std.specs.Prelude.{◌≡◌, ℕ, ◌+◌, ◌-◌, ◌<◌, nat_le, Bool, true, false, if◌then◌else◌, List, [], ◌∷◌, ◌++◌, length, map, take, drop, replicate, Option, Some, None}
+use Rattle.std.specs.Prelude.{◌≡◌, ℕ, ◌+◌, ◌-◌, ◌<◌, nat_le, Bool, false, if◌then◌else◌, List, [], ◌∷◌, ◌++◌, length, map, take, drop, replicate, Option, Some, None}
 use Rattle.std.specs.List.{flat_map}
 use Rattle.pk_ctypes.specs.declared.types.IntType.{IntType}
 use Rattle.pk_graph.specs.Kinds.{Kind, Kinds}
 use Rattle.pk_graph.specs.Steps.{Numbers}
 use Rattle.pk_graph.specs.Stores.{Stored}
-use Rattle.pk_state.specs.Layouts.{Layout, type_at, slot_of}
+use Rattle.pk_octagons.specs.Values.{type_at}
+use Rattle.pk_state.specs.Layouts.{Layout, slot_of}
 
 -- so many numbers have a slot each
 abbrev pub are_few : ℕ → Bool
@@ -44,7 +45,7 @@ pub record HasSlots (y : Layout) (x n : ℕ) : Type 0 where
   pub variable : x < length y.further
   pub own : x < length y.types
   pub there : (i : ℕ) → i < n → slot_of y x i < length y.types
-  pub types : (i : ℕ) → i < n → type_at y (slot_of y x i) ≡ type_at y x
+  pub types : (i : ℕ) → i < n → type_at y.types (slot_of y x i) ≡ type_at y.types x
 
 -- ---- a store
 

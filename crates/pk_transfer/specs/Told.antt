@@ -18,7 +18,7 @@ pub record Told : Type 0 where
   pub form : Option Linear
 
 abbrev pub told : Layout → (ℕ → Option Known) → TreeOf ℕ → Told
-told y g e = record { int_type = type_of (kinds_of y) e; known = tree_known g e; form = linear y.chosen g e }
+told y g e = record { int_type = type_of (kinds_of y) e; known = tree_known g e; form = linear y.packs g e }
 
 -- of a conversion and of operators, by what their operands tell
 abbrev pub told_converted : IntType → Told → Told

@@ -1,24 +1,24 @@
 -- What is known after an instruction.
-use Rattle.std.specs.Prelude.{◌≡◌, ℕ, zero, suc, ◌-◌, Bool, true, false, ◌||◌, if◌then◌else◌, pos, int_lt, int_le, Option, Some, None}
+use Rattle.std.specs.Prelude.{◌≡◌, ℕ, zero, suc, ◌-◌, Bool, true, false, ◌||◌, if◌then◌else◌, pos, int_lt, int_le, [], Option, Some, None}
 use Rattle.pk_graph.specs.Trees.{ArrayOf, InstrOf, Skip, Set, Havoc, Clear, Load, Store, Guard, Check}
 use Rattle.pk_graph.specs.Kinds.{Kinds, IsTypedInstr}
 use Rattle.pk_graph.specs.Steps.{Numbers, To, effect}
 use Rattle.pk_graph.specs.Stores.{Stored, storing, IsStore}
 use Rattle.pk_value.specs.Known.{Known, any_of, exactly, joined, is_within}
 use Rattle.pk_value.specs.Values.{is_constant}
-use Rattle.pk_state.specs.Layouts.{Layout, IsLayout, place_in, is_spread, slot_of}
+use Rattle.pk_state.specs.Layouts.{Layout, IsLayout, is_spread, slot_of}
 use Rattle.pk_state.specs.Facts.{Facts, AreFactsIf}
 use Rattle.pk_state.specs.Reduced.{reduced}
 use Rattle.pk_state.specs.Members.{Member}
 use Rattle.pk_state.specs.Changes.{known_in, with_known}
 use Rattle.pk_transfer.specs.Slots.{spread}
 use Rattle.pk_transfer.specs.Trees.{known_with, tree_known, IsOver}
-use Rattle.pk_transfer.specs.Assignments.{with_form_at, with_known_if, set_in}
+use Rattle.pk_transfer.specs.Assignments.{with_form, with_known_if, set_in}
 use Rattle.pk_transfer.specs.Assumptions.{guard_in}
 
--- a variable gets numbers that are known so, of which the octagon says nothing
+-- a variable gets numbers that are known so, of which no octagon says anything
 abbrev pub forgotten_in : Layout → Option Facts → ℕ → Option Known → Option Facts
-forgotten_in y f x k = with_known_if (with_form_at f (place_in y.chosen x) None) x k
+forgotten_in y f x k = with_known_if (with_form y f x None []) x k
 
 -- no index of 0 to n - 1
 abbrev pub misses : ℕ → Known → Bool
@@ -73,7 +73,7 @@ known_each y f x k (suc i) = with_known (known_each y f x k i) (slot_of y x (suc
 abbrev pub all_known : Layout → Option Facts → ℕ → ℕ → Known → Option Facts
 all_known y f x n k = if is_spread y x then known_each y f x k (n - 1) else with_known f x k
 
--- so are those that it gets, and the octagon says nothing of them
+-- so are those that it gets, and no octagon says anything of them
 abbrev pub all_forgotten : Layout → Option Facts → ℕ → ℕ → Known → Option Facts
 all_forgotten y f x n k = if is_spread y x then known_each y f x k (n - 1) else forgotten_in y f x (Some k)
 

@@ -1,5 +1,5 @@
 -- What is known of a tree's value.
-use Rattle.std.specs.Prelude.{◌≡◌, ℕ, ◌<◌, ℤ, length, map, Option, Some, None, Ok}
+use Rattle.std.specs.Prelude.{◌≡◌, ℕ, ℤ, map, Option, Some, None, Ok}
 use Rattle.pk_ctypes.specs.declared.types.IntType.{IntType}
 use Rattle.pk_graph.specs.Trees.{TreeOf, constant, variable, converted, unary, binary}
 use Rattle.pk_graph.specs.Kinds.{Kind, Kinds, IsScalar, IsTyped}
@@ -7,7 +7,8 @@ use Rattle.pk_graph.specs.Steps.{tree_value}
 use Rattle.pk_graph.specs.Stores.{Stored, storing}
 use Rattle.pk_value.specs.Known.{Known, exactly, IsOneOf}
 use Rattle.pk_value.specs.Values as values
-use Rattle.pk_state.specs.Layouts.{Layout, chosen_at}
+use Rattle.pk_octagons.specs.Members.{IsChosen}
+use Rattle.pk_state.specs.Layouts.{Layout}
 use Rattle.pk_state.specs.Facts.{Facts, AreFactsIf}
 use Rattle.pk_state.specs.Members.{Member}
 use Rattle.pk_state.specs.Changes.{known_in}
@@ -34,11 +35,11 @@ kind_of t = record { int_type = t; length = None }
 abbrev pub kinds_of : Layout → Kinds
 kinds_of l = map kind_of l.types
 
--- a layout has the slots of a table, and an octagon over scalars
+-- a layout has the slots of a table, and its octagons are over scalars
 pub record IsOver (ks : Kinds) (l : Layout) : Type 0 where
   pub types : l.types ≡ slot_types ks
   pub further : l.further ≡ further_of ks
-  pub scalars : (k : ℕ) → k < length l.chosen → IsScalar ks (chosen_at l k)
+  pub scalars : (x : ℕ) → IsChosen l.packs x → IsScalar ks x
 
 -- What is typed in a table is so in a layout over it, and where a typed tree has a value in a store of a state, it is one of the numbers that are known of it.
 pub record TreesAreSound : Type 0 where

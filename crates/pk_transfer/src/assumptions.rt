@@ -1,16 +1,16 @@
 // What is known where a guard passes.
 
-ghost use Rattle.std.specs.Prelude.{◌≡◌, ◌<◌, ◌≤ℤ◌, pos, length, IfOk, IfSome, Some, if◌then◌else◌};
+ghost use Rattle.std.specs.Prelude.{◌≡◌, ◌<◌, ◌≤ℤ◌, ◌++◌, pos, length, IfOk, IfSome, Some, if◌then◌else◌};
 ghost use Rattle.pk_ctypes.specs.declared.types.IntType.TheVariants as types;
 ghost use Rattle.pk_interval.specs.Ranges.{IsIn};
 ghost use Rattle.pk_graph.specs.Trees as tree;
 ghost use Rattle.pk_graph.specs.Kinds.{IsTyped};
 ghost use Rattle.pk_graph.specs.Views.{tree_view};
-ghost use Rattle.pk_state.specs.Layouts.{type_at};
-ghost use Rattle.pk_state.specs.Changes.{IsValue, known_in};
+ghost use Rattle.pk_octagons.specs.Values.{type_at, IsValue};
+ghost use Rattle.pk_state.specs.Changes.{known_in};
 ghost use Rattle.pk_transfer.specs.Trees.{kinds_of, known_with};
 ghost use Rattle.pk_transfer.specs.Guards.{refined as refined_by, is_zero as zero_test, negated as negated_op, flipped as flipped_op};
-ghost use Rattle.pk_transfer.specs.Linear.{HasPlaces, IsGuardOn};
+ghost use Rattle.pk_transfer.specs.Linear.{HasPlaces, IsGuardOn, variables_of};
 ghost use Rattle.pk_transfer.specs.Places.{places_of};
 ghost use Rattle.pk_transfer.specs.Assignments.{HasFacts, with_known_if};
 ghost use Rattle.pk_transfer.specs.Assumptions.{places_in, le_in, compared_in, with_operand as refined_operand, refined_in, holds_in, guard_in};
@@ -19,6 +19,7 @@ use crate::guards::refine;
 use crate::linear::{Form, Places};
 use crate::operators::{flipped, is_comparison, is_not, negated};
 use crate::telling::{Told, tell};
+use crate::variables::variables_of_both;
 use pk_ctypes::{IntType, Op};
 use pk_graph::Tree;
 use pk_state::State;
@@ -33,7 +34,7 @@ pub(crate) fn written<'f>(
     known: Option<Value>,
 ) -> Result<State<'f>, AllocError>
     requires place { x < length state.layout.types }
-    requires value { IfSome known (IsValue (type_at state.layout x)) }
+    requires value { IfSome known (IsValue (type_at state.layout.types x)) }
     ensures { IfOk result (HasFacts state.entry (with_known_if state.entry.facts x known)) }
 {
     match known {
@@ -42,21 +43,23 @@ pub(crate) fn written<'f>(
     }
 }
 
-// ---- the octagon
+// ---- the octagons
 
 fn at_most<'f>(
     alloc: Global,
     state: State<'f>,
     places: Places,
     c: i128,
+    over: &[usize],
 ) -> Result<State<'f>, AllocError>
-    requires { IsGuardOn (length state.layout.chosen) (places_of places) }
-    ensures { IfOk result (HasFacts state.entry (places_in state.entry.facts (places_of places) c)) }
+    requires { IsGuardOn (places_of places) }
+    ensures { IfOk result
+        (HasFacts state.entry (places_in state.entry.layout state.entry.facts (places_of places) c over.now)) }
 {
     match places {
-        Places::Zero => state.with_guard(alloc, None, None, c),
-        Places::One(a) => state.with_guard(alloc, Some(a), None, c),
-        Places::Two(a, b) => state.with_guard(alloc, Some(a), Some(b), c),
+        Places::Zero => state.with_guard(alloc, None, None, c, over),
+        Places::One(a) => state.with_guard(alloc, Some(a), None, c, over),
+        Places::Two(a, b) => state.with_guard(alloc, Some(a), Some(b), c, over),
     }
 }
 
@@ -66,18 +69,20 @@ fn bounded<'f>(
     left: Form,
     right: Form,
     less: i128,
+    over: &[usize],
 ) -> Result<State<'f>, AllocError>
-    requires left { HasPlaces (length state.layout.chosen) (Some left) }
-    requires right { HasPlaces (length state.layout.chosen) (Some right) }
+    requires left { HasPlaces (Some left) }
+    requires right { HasPlaces (Some right) }
     requires from { pos 0 ≤ℤ less }
     requires to { less ≤ℤ pos 1 }
-    ensures { IfOk result (HasFacts state.entry (le_in state.entry.facts (Some left) (Some right) less)) }
+    ensures { IfOk result
+        (HasFacts state.entry (le_in state.entry.layout state.entry.facts (Some left) (Some right) less over.now)) }
 {
     match left.places_over(right) {
         None => Ok(state),
         Some(places) => {
             let room = left.room_below(right, less);
-            at_most(alloc, state, places, room)
+            at_most(alloc, state, places, room, over)
         }
     }
 }
@@ -89,18 +94,20 @@ fn le<'f>(
     left: &Option<Form>,
     right: &Option<Form>,
     less: i128,
+    over: &[usize],
 ) -> Result<State<'f>, AllocError>
-    requires left { HasPlaces (length state.layout.chosen) left.now }
-    requires right { HasPlaces (length state.layout.chosen) right.now }
+    requires left { HasPlaces left.now }
+    requires right { HasPlaces right.now }
     requires from { pos 0 ≤ℤ less }
     requires to { less ≤ℤ pos 1 }
-    ensures { IfOk result (HasFacts state.entry (le_in state.entry.facts left.now right.now less)) }
+    ensures { IfOk result
+        (HasFacts state.entry (le_in state.entry.layout state.entry.facts left.now right.now less over.now)) }
 {
     match left {
         None => Ok(state),
         Some(left) => match right {
             None => Ok(state),
-            Some(right) => bounded(alloc, state, *left, *right, less),
+            Some(right) => bounded(alloc, state, *left, *right, less, over),
         },
     }
 }
@@ -110,14 +117,17 @@ fn same<'f>(
     state: State<'f>,
     left: &Option<Form>,
     right: &Option<Form>,
+    over: &[usize],
 ) -> Result<State<'f>, AllocError>
-    requires left { HasPlaces (length state.layout.chosen) left.now }
-    requires right { HasPlaces (length state.layout.chosen) right.now }
+    requires left { HasPlaces left.now }
+    requires right { HasPlaces right.now }
     ensures { IfOk result
-        (HasFacts state.entry (le_in (le_in state.entry.facts left.now right.now (pos 0)) right.now left.now (pos 0))) }
+        (HasFacts state.entry
+        (le_in state.entry.layout (le_in state.entry.layout state.entry.facts left.now right.now (pos 0) over.now)
+        right.now left.now (pos 0) over.now)) }
 {
-    let state = le(alloc, state, left, right, 0)?;
-    le(alloc, state, right, left, 0)
+    let state = le(alloc, state, left, right, 0, over)?;
+    le(alloc, state, right, left, 0, over)
 }
 
 fn compared<'f>(
@@ -126,17 +136,19 @@ fn compared<'f>(
     op: Op,
     left: &Option<Form>,
     right: &Option<Form>,
+    over: &[usize],
 ) -> Result<State<'f>, AllocError>
-    requires left { HasPlaces (length state.layout.chosen) left.now }
-    requires right { HasPlaces (length state.layout.chosen) right.now }
-    ensures { IfOk result (HasFacts state.entry (compared_in op state.entry.facts left.now right.now)) }
+    requires left { HasPlaces left.now }
+    requires right { HasPlaces right.now }
+    ensures { IfOk result
+        (HasFacts state.entry (compared_in op state.entry.layout state.entry.facts left.now right.now over.now)) }
 {
     match op {
-        Op::Lt => le(alloc, state, left, right, 1),
-        Op::Le => le(alloc, state, left, right, 0),
-        Op::Gt => le(alloc, state, right, left, 1),
-        Op::Ge => le(alloc, state, right, left, 0),
-        Op::Eq => same(alloc, state, left, right),
+        Op::Lt => le(alloc, state, left, right, 1, over),
+        Op::Le => le(alloc, state, left, right, 0, over),
+        Op::Gt => le(alloc, state, right, left, 1, over),
+        Op::Ge => le(alloc, state, right, left, 0, over),
+        Op::Eq => same(alloc, state, left, right, over),
         Op::Ne
         | Op::Add
         | Op::Sub
@@ -277,7 +289,8 @@ fn holds<'f>(
 {
     let l = tell(left, &state);
     let r = tell(right, &state);
-    let state = compared(alloc, state, op, &l.form, &r.form)?;
+    let over = variables_of_both(alloc, left, right)?;
+    let state = compared(alloc, state, op, &l.form, &r.form, &over)?;
     refined(alloc, state, op, left, right, &l, &r)
 }
 

@@ -1,15 +1,16 @@
 // The frame of a graph's states.
 
-ghost use Rattle.std.specs.Prelude.{◌≡◌, ◌<◌, ◌+◌, ◌++◌, ◌^◌, if◌then◌else◌, IfOk, OnOk, Some, None, length, map, replicate};
+ghost use Rattle.std.specs.Prelude.{◌≡◌, ◌<◌, ◌+◌, ◌++◌, ◌∷◌, [], ◌^◌, if◌then◌else◌, IfOk, OnOk, Some, None, All, length, map, replicate};
 ghost use Rattle.std.specs.List.{flat_map};
 ghost use Rattle.pk_graph.specs.Graphs.{variable_view};
 ghost use Rattle.pk_graph.specs.Shown.{graph_view};
 ghost use Rattle.pk_transfer.specs.Slots.{is_small as small, further_count as count_of, further_types, further_from};
-ghost use Rattle.pk_transfer.specs.Graphs.{layout_of, own_types, kinds_shown};
+ghost use Rattle.pk_transfer.specs.Graphs.{layout_of, layout_over, IsPackOfGraph, own_types, kinds_shown};
 
 use crate::laws::graphs_law;
 use pk_ctypes::IntType;
 use pk_graph::{Graph, Variable, octagon_variables};
+use pk_octagons::Pack;
 use pk_state::Frame;
 use std::alloc::{AllocError, Global};
 
@@ -87,15 +88,34 @@ fn further_slots(
     Ok(further)
 }
 
-/// The slots of a graph's variables, with an octagon over the first variables: at most `oct`.
+// One pack.
+fn one_pack(alloc: Global, variables: Vec<usize>) -> Result<Vec<Pack>, AllocError>
+    ensures { IfOk result (λ p. p.items ≡ variables.items ∷ []) }
+{
+    let mut packs = Vec::with_capacity(alloc, 1)?;
+    packs.push(Pack::new(variables))?;
+    Ok(packs)
+}
+
+/// The slots of a graph's variables, with an octagon over each of these packs of the graph.
+pub fn frame_over(alloc: Global, graph: &Graph, packs: Vec<Pack>) -> Result<Frame, AllocError>
+    requires { All (IsPackOfGraph (graph_view graph.now)) packs.items }
+    ensures { IfOk result (λ f. f ≡ layout_over (graph_view graph.now) packs.items) }
+{
+    graphs_law();
+    let variables = graph.variables();
+    let mut types = own_slots(alloc, variables)?;
+    let further = further_slots(alloc, variables, &mut types)?;
+    Frame::new(alloc, types, packs, further)
+}
+
+/// With one octagon, over the first variables: at most `oct`.
 pub fn frame(alloc: Global, graph: &Graph, oct: usize) -> Result<Frame, AllocError>
     requires { oct < 2 ^ 31 }
     ensures { IfOk result (λ f. f ≡ layout_of (graph_view graph.now) oct) }
 {
     graphs_law();
     let chosen = octagon_variables(alloc, graph, oct)?;
-    let variables = graph.variables();
-    let mut types = own_slots(alloc, variables)?;
-    let further = further_slots(alloc, variables, &mut types)?;
-    Ok(Frame::new(types, chosen, further))
+    let packs = one_pack(alloc, chosen)?;
+    frame_over(alloc, graph, packs)
 }

@@ -4,9 +4,9 @@ ghost use Rattle.std.specs.Prelude.{◌≡◌, ◌≤ℤ◌, ◌+ℤ◌, ◌-ℤ
 ghost use Rattle.std.specs.Ordering.{int_eq};
 ghost use Rattle.pk_ctypes.specs.declared.types.Op.TheVariants as ops;
 ghost use Rattle.pk_interval.specs.Ranges.{IsIn, range_from};
-ghost use Rattle.pk_state.specs.Changes.{IsValue};
+ghost use Rattle.pk_octagons.specs.Values.{IsValue};
 ghost use Rattle.pk_transfer.specs.Guards.{refined, with_both, at_most as kept_at_most, at_least as kept_at_least};
-ghost use Rattle.pk_state.specs.Reduced.{with_range};
+ghost use Rattle.pk_octagons.specs.Reduced.{with_range};
 
 use pk_congr::{Congr, reduced_law};
 use pk_ctypes::{IntType, Op};

@@ -18,7 +18,7 @@ pub fn guards_law()
     ensures { GuardsKeep }
 {}
 
-/// Where a tree has a linear form, its value is that of the form, and the difference of two forms is a guard of the octagon.
+/// Where a tree has a linear form, its value is that of the form, and the difference of two forms is a guard of octagons.
 pub fn forms_law()
     ensures { FormsAreExact }
 {}

@@ -10,9 +10,10 @@ mod operators;
 mod telling;
 mod transfers;
 mod trees;
+mod variables;
 
 pub use assumptions::guard;
-pub use frames::{frame, further_count, is_small};
+pub use frames::{frame, frame_over, further_count, is_small};
 pub use guards::refine;
 pub use laws::{
     assignments_law, forms_law, graphs_law, guards_law, passing_law, transfers_law, trees_law,

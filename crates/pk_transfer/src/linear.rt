@@ -1,20 +1,20 @@
-// Linear forms: a constant and at most two signed octagon variables.
+// Linear forms: a constant and at most two signed variables of octagons.
 
-ghost use Rattle.std.specs.Prelude.{◌≡◌, ◌∷◌, [], map, pos, negsuc, option_map, ◌*◌, ◌^◌, ◌≤ℤ◌, ◌+ℤ◌, ◌-ℤ◌};
+ghost use Rattle.std.specs.Prelude.{◌≡◌, ◌∷◌, [], map, pos, negsuc, Some, None, option_map, if◌then◌else◌, ◌*◌, ◌^◌, ◌≤ℤ◌, ◌+ℤ◌, ◌-ℤ◌};
 ghost use Rattle.pk_octmat.specs.Octagon.{bar as opposite};
-ghost use Rattle.pk_state.specs.Layouts.{place_in};
+ghost use Rattle.pk_octagons.specs.Packs.{is_chosen};
 ghost use Rattle.pk_transfer.specs.Linear.{is_near as is_near_zero, if_two, if_near, if_few, with_place as more, with_places as sum_of_places, negative as negative_of, sum as sum_of, difference as difference_of};
 ghost use Rattle.pk_transfer.specs.Places.{places_of};
 
 use pk_state::State;
 use std::marker::Model;
 
-/// At most two places of the octagon: place 2k is its variable k, place 2k + 1 the negative.
+/// At most two places: place 2x is variable x, place 2x + 1 the negative.
 #[derive(Clone, Copy)]
 pub(crate) enum Places {
     Zero,
-    One(u32),
-    Two(u32, u32),
+    One(usize),
+    Two(usize, usize),
 }
 
 /// A constant and the sum of places. The constant is within 2^126 of 0.
@@ -42,13 +42,13 @@ impl Model for Form {
 }
 
 // The place of the negative.
-fn bar(p: u32) -> u32
+fn bar(p: usize) -> usize
     ensures { result ≡ opposite p }
 {
     if p % 2 == 0 { p + 1 } else { p - 1 }
 }
 
-fn with_place(p: u32, places: Places) -> Option<Places>
+fn with_place(p: usize, places: Places) -> Option<Places>
     ensures { option_map places_of result ≡ if_two (more p (places_of places)) }
 {
     match places {
@@ -73,7 +73,7 @@ fn with_place(p: u32, places: Places) -> Option<Places>
 }
 
 // One more than three.
-fn with_fourth(p: u32, a: u32, b: u32, d: u32) -> Option<Places>
+fn with_fourth(p: usize, a: usize, b: usize, d: usize) -> Option<Places>
     ensures { option_map places_of result ≡ if_two (more p (a ∷ (b ∷ (d ∷ [])))) }
 {
     if a == bar(p) {
@@ -87,7 +87,7 @@ fn with_fourth(p: u32, a: u32, b: u32, d: u32) -> Option<Places>
     }
 }
 
-fn with_two(p: u32, q: u32, places: Places) -> Option<Places>
+fn with_two(p: usize, q: usize, places: Places) -> Option<Places>
     ensures { option_map places_of result ≡ if_two (more p (more q (places_of places))) }
 {
     match places {
@@ -230,17 +230,17 @@ impl Form {
     }
 }
 
-/// A variable's form, if the octagon is over it.
+/// A variable's form, if an octagon is over it.
 pub(crate) fn of_variable(x: usize, state: &State) -> Option<Form>
     ensures { result
-        ≡ option_map (λ k. record { constant = pos 0; places = 2 * k ∷ [] }) (place_in state.now.layout.chosen x) }
+        ≡ if is_chosen state.now.layout.packs x then Some (record { constant = pos 0; places = 2 * x ∷ [] }) else None }
 {
-    state.is_stated();
-    match state.place(x) {
-        None => None,
-        Some(k) => Some(Form {
+    if state.is_chosen(x) {
+        Some(Form {
             constant: 0,
-            places: Places::One(2 * k),
-        }),
+            places: Places::One(2 * x),
+        })
+    } else {
+        None
     }
 }

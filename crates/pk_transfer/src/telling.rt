@@ -11,7 +11,8 @@ ghost use Rattle.pk_graph.specs.Kinds.{IsTyped, IsRight};
 ghost use Rattle.pk_graph.specs.Views.{tree_view};
 ghost use Rattle.pk_value.specs.Known.{exactly};
 ghost use Rattle.pk_value.specs.Values.{converted as converted_of, operated};
-ghost use Rattle.pk_state.specs.Changes.{known_in, IsValue};
+ghost use Rattle.pk_octagons.specs.Values.{IsValue};
+ghost use Rattle.pk_state.specs.Changes.{known_in};
 ghost use Rattle.pk_transfer.specs.Trees.{known_with, kinds_of};
 ghost use Rattle.pk_transfer.specs.Linear.{both, difference, if_negative, if_sum, is_exact as stays_exact, is_inside as lies_inside, negative, sum, where_both, where_known};
 ghost use Rattle.pk_transfer.specs.Told.{told, told_converted, told_unary, told_binary};
@@ -34,7 +35,7 @@ pub(crate) struct Told {
 
 impl Model for Told {
     ghost use Rattle.std.specs.Prelude.{IfSome};
-    ghost use Rattle.pk_state.specs.Changes.{IsValue};
+    ghost use Rattle.pk_octagons.specs.Values.{IsValue};
     ghost use Rattle.pk_transfer.specs.Told.{Told};
 
     ghost Value = { Told };

@@ -6,11 +6,12 @@ ghost use Rattle.pk_graph.specs.Kinds.{IsTyped, type_of};
 ghost use Rattle.pk_graph.specs.Views.{tree_view, array_view, instr_view};
 ghost use Rattle.pk_value.specs.Known.{joined};
 ghost use Rattle.pk_value.specs.Values.{is_constant};
-ghost use Rattle.pk_state.specs.Layouts.{type_at, slot_of};
-ghost use Rattle.pk_state.specs.Changes.{IsValue, known_in};
+ghost use Rattle.pk_octagons.specs.Values.{type_at, IsValue};
+ghost use Rattle.pk_state.specs.Layouts.{slot_of};
+ghost use Rattle.pk_state.specs.Changes.{known_in};
 ghost use Rattle.pk_transfer.specs.Slots.{HasSlots};
 ghost use Rattle.pk_transfer.specs.Trees.{kinds_of, tree_known};
-ghost use Rattle.pk_transfer.specs.Linear.{HasPlaces, linear};
+ghost use Rattle.pk_transfer.specs.Linear.{variables_of};
 ghost use Rattle.pk_transfer.specs.Places.{places_of};
 ghost use Rattle.pk_transfer.specs.Assignments.{HasFacts, term_of, with_form, set_in, with_known_if};
 ghost use Rattle.pk_transfer.specs.Transfers.{misses as misses_all, at_index};
@@ -22,6 +23,7 @@ use crate::assumptions::{guard, written};
 use crate::linear::{Form, Places};
 use crate::telling::tell;
 use crate::trees::value;
+use crate::variables::variables;
 use pk_congr::reduced_law;
 use pk_ctypes::IntType;
 use pk_graph::{Array, Instr, Tree};
@@ -30,9 +32,9 @@ use pk_state::State;
 use pk_value::Value;
 use std::alloc::{AllocError, Global};
 
-// ---- the octagon
+// ---- the octagons
 
-fn term(places: Places) -> Option<u32>
+fn term(places: Places) -> Option<usize>
     ensures { result ≡ term_of (places_of places) }
 {
     match places {
@@ -42,24 +44,27 @@ fn term(places: Places) -> Option<u32>
     }
 }
 
-// The octagon's variable k gets the form's number, or any.
+// A variable gets the number of a tree's form, or any, in each octagon that is over it.
 fn assigned<'f>(
     alloc: Global,
     state: State<'f>,
-    k: u32,
+    x: usize,
     form: Option<Form>,
+    e: &Tree,
 ) -> Result<State<'f>, AllocError>
-    requires variable { k < length state.layout.chosen }
-    requires places { HasPlaces (length state.layout.chosen) form }
-    ensures { IfOk result (HasFacts state.entry (with_form state.entry.facts k form)) }
+    ensures { IfOk result (HasFacts state.entry
+        (with_form state.entry.layout state.entry.facts x form (variables_of (tree_view e.now)))) }
 {
     match form {
-        None => state.with_assignment(alloc, k, None, 0),
-        Some(form) => state.with_assignment(alloc, k, term(form.places), form.constant),
+        None => state.with_assignment(alloc, x, None, 0, &[]),
+        Some(form) => {
+            let over = variables(alloc, e)?;
+            state.with_assignment(alloc, x, term(form.places), form.constant, &over)
+        }
     }
 }
 
-// Nothing is known of a variable by the octagon, and this by itself.
+// Nothing is known of a variable by octagons, and this by itself.
 fn forgotten<'f>(
     alloc: Global,
     state: State<'f>,
@@ -67,57 +72,44 @@ fn forgotten<'f>(
     known: Option<Value>,
 ) -> Result<State<'f>, AllocError>
     requires place { x < length state.layout.types }
-    requires value { IfSome known (IsValue (type_at state.layout x)) }
+    requires value { IfSome known (IsValue (type_at state.layout.types x)) }
     ensures { IfOk result (HasFacts state.entry (forgotten_in state.entry.layout state.entry.facts x known)) }
 {
-    match state.place(x) {
-        None => written(alloc, state, x, known),
-        Some(k) => {
-            let state = assigned(alloc, state, k, None)?;
-            written(alloc, state, x, known)
-        }
-    }
+    let state = state.with_assignment(alloc, x, None, 0, &[])?;
+    written(alloc, state, x, known)
 }
 
 // ---- instructions
 
-// A variable of the octagon, at place k, gets a tree's value.
+// A variable gets a tree's value, and octagons its form.
 fn set_chosen<'f>(
     alloc: Global,
     state: State<'f>,
     x: usize,
-    k: u32,
     e: &Tree,
 ) -> Result<State<'f>, AllocError>
     requires place { x < length state.layout.types }
-    requires variable { k < length state.layout.chosen }
     requires typed { IsTyped (kinds_of state.layout) (tree_view e.now) }
-    requires fits { Represents (type_at state.layout x) (type_of (kinds_of state.layout) (tree_view e.now)) }
-    ensures { IfOk result
-        (HasFacts state.entry
-        (with_known_if
-        (with_form state.entry.facts k
-        (linear state.entry.layout.chosen (known_in state.entry.facts) (tree_view e.now))) x
-        (tree_known (known_in state.entry.facts) (tree_view e.now)))) }
+    requires fits { Represents (type_at state.layout.types x) (type_of (kinds_of state.layout) (tree_view e.now)) }
+    ensures { IfOk result (HasFacts state.entry (set_in state.entry.layout state.entry.facts x (tree_view e.now))) }
 {
     let d = tell(e, &state);
-    let state = assigned(alloc, state, k, d.form)?;
+    let state = assigned(alloc, state, x, d.form, e)?;
     written(alloc, state, x, d.known)
 }
 
 fn set<'f>(alloc: Global, state: State<'f>, x: usize, e: &Tree) -> Result<State<'f>, AllocError>
     requires place { x < length state.layout.types }
     requires typed { IsTyped (kinds_of state.layout) (tree_view e.now) }
-    requires fits { Represents (type_at state.layout x) (type_of (kinds_of state.layout) (tree_view e.now)) }
+    requires fits { Represents (type_at state.layout.types x) (type_of (kinds_of state.layout) (tree_view e.now)) }
     ensures { IfOk result (HasFacts state.entry (set_in state.entry.layout state.entry.facts x (tree_view e.now))) }
 {
-    match state.place(x) {
-        None => {
-            let known = value(e, &state);
-            written(alloc, state, x, known)
-        }
-        Some(k) => set_chosen(alloc, state, x, k, e),
+    if state.is_chosen(x) {
+        return set_chosen(alloc, state, x, e);
     }
+    state.is_stated();
+    let known = value(e, &state);
+    written(alloc, state, x, known)
 }
 
 // Whether no number of a value is an index.
@@ -183,7 +175,7 @@ fn number(state: &State, x: usize, i: usize, n: usize) -> Option<Value>
     requires slots { HasSlots state.now.layout x n }
     requires place { i < n }
     ensures value { result ≡ known_in state.now.facts (slot_of state.now.layout x i) }
-    ensures inside { IfSome result (IsValue (type_at state.now.layout x)) }
+    ensures inside { IfSome result (IsValue (type_at state.now.layout.types x)) }
 {
     let _ = n;
     state.value(state.slot(x, i))
@@ -193,7 +185,7 @@ fn number(state: &State, x: usize, i: usize, n: usize) -> Option<Value>
 fn known_below(state: &State, x: usize, k: &Value, n: usize) -> Option<Value>
     requires { HasSlots state.now.layout x n }
     ensures value { result ≡ known_below state.now.layout state.now.facts x k.now n }
-    ensures inside { IfSome result (IsValue (type_at state.now.layout x)) }
+    ensures inside { IfSome result (IsValue (type_at state.now.layout.types x)) }
 {
     let t = state.int_type(x);
     let mut known = None;
@@ -214,7 +206,7 @@ fn stored_at<'f>(
     value: Value,
 ) -> Result<State<'f>, AllocError>
     requires place { j < length state.layout.types }
-    requires value { IsValue (type_at state.layout j) value }
+    requires value { IsValue (type_at state.layout.types j) value }
     ensures { IfOk result (HasFacts state.entry (stored_at state.entry.facts j surely value)) }
 {
     match state.value(j) {
@@ -242,7 +234,7 @@ fn stored_if<'f>(
 ) -> Result<State<'f>, AllocError>
     requires variable { x < length state.layout.further }
     requires there { slot_of state.layout x i < length state.layout.types }
-    requires value { IsValue (type_at state.layout (slot_of state.layout x i)) value }
+    requires value { IsValue (type_at state.layout.types (slot_of state.layout x i)) value }
     ensures { IfOk result
         (HasFacts state.entry (if may_be k.now i then
         stored_at state.entry.facts (slot_of state.entry.layout x i) (is_constant k.now) value
@@ -266,7 +258,7 @@ fn stored_below<'f>(
     n: usize,
 ) -> Result<State<'f>, AllocError>
     requires slots { HasSlots state.layout x n }
-    requires value { IsValue (type_at state.layout x) value }
+    requires value { IsValue (type_at state.layout.types x) value }
     ensures { IfOk result
         (HasFacts state.entry (stored_below state.entry.layout state.entry.facts x k.now value n)) }
 {
@@ -286,7 +278,7 @@ fn known_each<'f>(
     n: usize,
 ) -> Result<State<'f>, AllocError>
     requires slots { HasSlots state.layout x n }
-    requires value { IsValue (type_at state.layout x) known }
+    requires value { IsValue (type_at state.layout.types x) known }
     ensures { IfOk result
         (HasFacts state.entry (known_each state.entry.layout state.entry.facts x known (n - 1))) }
 {
@@ -309,7 +301,7 @@ fn all_known<'f>(
     known: Value,
 ) -> Result<State<'f>, AllocError>
     requires slots { HasSlots state.layout x n }
-    requires value { IsValue (type_at state.layout x) known }
+    requires value { IsValue (type_at state.layout.types x) known }
     ensures { IfOk result (HasFacts state.entry (all_known state.entry.layout state.entry.facts x n known)) }
 {
     if state.is_spread(x) {
@@ -319,7 +311,7 @@ fn all_known<'f>(
     }
 }
 
-// So are those that it gets, and the octagon says nothing of them.
+// So are those that it gets, and no octagon says anything of them.
 fn all_forgotten<'f>(
     alloc: Global,
     state: State<'f>,
@@ -328,7 +320,7 @@ fn all_forgotten<'f>(
     known: Value,
 ) -> Result<State<'f>, AllocError>
     requires slots { HasSlots state.layout x n }
-    requires value { IsValue (type_at state.layout x) known }
+    requires value { IsValue (type_at state.layout.types x) known }
     ensures { IfOk result (HasFacts state.entry (all_forgotten state.entry.layout state.entry.facts x n known)) }
 {
     if state.is_spread(x) {
@@ -342,7 +334,7 @@ fn all_forgotten<'f>(
 fn loaded(state: &State, array: &Array, k: &Value) -> Option<Value>
     requires { HasSlots state.now.layout array.now.variable array.now.length }
     ensures value { result ≡ loaded state.now.layout state.now.facts (array_view array.now) k.now }
-    ensures inside { IfSome result (IsValue (type_at state.now.layout array.now.variable)) }
+    ensures inside { IfSome result (IsValue (type_at state.now.layout.types array.now.variable)) }
 {
     if state.is_spread(array.variable) {
         known_below(state, array.variable, k, array.length)
@@ -360,7 +352,7 @@ fn load<'f>(
 ) -> Result<State<'f>, AllocError>
     requires place { x < length state.layout.types }
     requires slots { HasSlots state.layout array.now.variable array.now.length }
-    requires types { type_at state.layout x ≡ type_at state.layout array.now.variable }
+    requires types { type_at state.layout.types x ≡ type_at state.layout.types array.now.variable }
     requires typed { IsTyped (kinds_of state.layout) (tree_view index.now) }
     ensures { IfOk result
         (HasFacts state.entry (at_index array.now.length (tree_known (known_in state.entry.facts) (tree_view index.now))
@@ -389,7 +381,7 @@ fn stored<'f>(
     value: Value,
 ) -> Result<State<'f>, AllocError>
     requires slots { HasSlots state.layout array.now.variable array.now.length }
-    requires value { IsValue (type_at state.layout array.now.variable) value }
+    requires value { IsValue (type_at state.layout.types array.now.variable) value }
     ensures { IfOk result
         (HasFacts state.entry (stored state.entry.layout state.entry.facts (array_view array.now) k.now (Some value))) }
 {
@@ -407,10 +399,10 @@ fn stored<'f>(
 // What is known of a tree, of which an array gets the number.
 fn given(state: &State, array: usize, e: &Tree) -> Option<Value>
     requires typed { IsTyped (kinds_of state.now.layout) (tree_view e.now) }
-    requires fits { Represents (type_at state.now.layout array)
+    requires fits { Represents (type_at state.now.layout.types array)
         (type_of (kinds_of state.now.layout) (tree_view e.now)) }
     ensures value { result ≡ tree_known (known_in state.now.facts) (tree_view e.now) }
-    ensures inside { IfSome result (IsValue (type_at state.now.layout array)) }
+    ensures inside { IfSome result (IsValue (type_at state.now.layout.types array)) }
 {
     let _ = array;
     value(e, state)
@@ -426,7 +418,7 @@ fn store<'f>(
     requires slots { HasSlots state.layout array.now.variable array.now.length }
     requires index { IsTyped (kinds_of state.layout) (tree_view index.now) }
     requires typed { IsTyped (kinds_of state.layout) (tree_view e.now) }
-    requires fits { Represents (type_at state.layout array.now.variable)
+    requires fits { Represents (type_at state.layout.types array.now.variable)
         (type_of (kinds_of state.layout) (tree_view e.now)) }
     ensures { IfOk result
         (HasFacts state.entry (at_index array.now.length (tree_known (known_in state.entry.facts) (tree_view index.now))

@@ -3,7 +3,8 @@
 ghost use Rattle.std.specs.Prelude.{◌≡◌, IfSome};
 ghost use Rattle.pk_graph.specs.Kinds.{IsTyped, type_of};
 ghost use Rattle.pk_graph.specs.Views.{tree_view};
-ghost use Rattle.pk_state.specs.Changes.{known_in, IsValue};
+ghost use Rattle.pk_octagons.specs.Values.{IsValue};
+ghost use Rattle.pk_state.specs.Changes.{known_in};
 ghost use Rattle.pk_transfer.specs.Trees.{tree_known, kinds_of};
 
 use pk_graph::Tree;

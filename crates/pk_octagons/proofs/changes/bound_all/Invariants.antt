@@ -3,4 +3,4 @@ use Rattle.pk_octagons.proofs.changes.bound_all.Given as goal
 
 -- so many places are done
 abbrev pub invariant-loop-i : goal.invariant-loop-i
-invariant-loop-i l = AreOver l.packs (bounded_at l.a l.c) l.places l.i l.fn.all.items l.all.items
+invariant-loop-i l = AreOver l.packs (bounded_at l.packs l.a l.c l.over) l.places l.i l.fn.all.items l.all.items

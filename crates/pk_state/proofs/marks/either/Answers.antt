@@ -1,6 +1,6 @@
 use Rattle.std.proofs.Common.{ℕ, ◌<◌, ◌⊎◌, ◌++◌, ◌∙◌, ap, subst, sym, List}
 use Rattle.std.proofs.lemmas.Result.{IfOk-weaker}
-use Rattle.pk_state.specs.Marks.{IsListed}
+use Rattle.pk_octagons.specs.Values.{IsListed}
 use Rattle.pk_state.proofs.Loose.{listed_both}
 use Rattle.pk_state.proofs.marks.either.Goals as goal
 

@@ -1,5 +1,5 @@
 use Rattle.std.proofs.Common.{ℕ, ◌<◌}
-use Rattle.pk_state.specs.Marks.{IsListed}
+use Rattle.pk_octagons.specs.Values.{IsListed}
 use Rattle.pk_state.proofs.marks.every.Given as goal
 
 -- so many are listed

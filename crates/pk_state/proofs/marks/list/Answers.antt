@@ -1,7 +1,8 @@
 use Rattle.std.proofs.Common.{subst}
 use Rattle.std.specs.Prelude.{◌∷◌, []}
-use Rattle.pk_state.specs.Marks.{IsListed}
-use Rattle.pk_state.proofs.Loose.{listed_at, listed_last, listed_left}
+use Rattle.pk_octagons.specs.Values.{IsListed}
+use Rattle.pk_octagons.proofs.Bounding.{listed_last, listed_left}
+use Rattle.pk_state.proofs.Loose.{listed_at}
 use Rattle.pk_state.proofs.marks.list.Goals as goal
 
 pub returns-in_ok-push-in-None-clause-listed : goal.returns-in_ok-push-in-None-clause-listed

@@ -1,8 +1,8 @@
 use Rattle.std.proofs.Common.{ap, refl, sym, ◌∙◌, arith, below_more}
 use Rattle.std.proofs.lemmas.Option.{slice_get_read}
 use Rattle.pk_value.specs.Known.{is_within}
-use Rattle.pk_state.specs.Facts.{known_at}
-use Rattle.pk_state.proofs.Stays.{get_known}
+use Rattle.pk_octagons.specs.Values.{known_at}
+use Rattle.pk_octagons.proofs.Lists.{get_known}
 use Rattle.pk_state.proofs.values.leq_row.Goals as goal
 
 pub returns : goal.returns

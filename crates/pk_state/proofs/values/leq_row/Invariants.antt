@@ -1,6 +1,6 @@
 use Rattle.std.proofs.Common.{◌≡◌, ◌<◌, ℕ, true}
 use Rattle.pk_value.specs.Known.{is_within}
-use Rattle.pk_state.specs.Facts.{known_at}
+use Rattle.pk_octagons.specs.Values.{known_at}
 use Rattle.pk_state.proofs.values.leq_row.Given as goal
 
 -- so many pass

@@ -1,8 +1,9 @@
 use Rattle.std.proofs.Common.{◌<◌, drop, sym, subst, ◌∙◌, arith, length, slice_index_or, refl}
 use Rattle.std.proofs.Math.ListN.{drop_of_length-le}
-use Rattle.pk_state.specs.Layouts.{type_at}
-use Rattle.pk_state.specs.Changes.{IsValue}
-use Rattle.pk_state.proofs.Stays.{value_at, red_value, write_values, get_known}
+use Rattle.pk_octagons.specs.Values.{type_at, IsValue}
+use Rattle.pk_octagons.proofs.Bounding.{value_at, write_values}
+use Rattle.pk_octagons.proofs.Lists.{get_known}
+use Rattle.pk_state.proofs.Stays.{red_value}
 use Rattle.pk_state.proofs.Loose.{halfway_step, halfway_past, halfway_stop, halfway_end}
 use Rattle.pk_state.proofs.values.reduce_values.Goals as goal
 use Rattle.pk_state.proofs.values.reduce_values.Goals.{then-x-len+in-Some+in_ok-put-in-Some, else-x-len}
@@ -21,7 +22,7 @@ pub loop-k-preserved : goal.loop-k-preserved
 loop-k-preserved c = elim c.if-x-len.branch [
   | then-x-len+in-Some+in_ok-put-in-Some w ↦
       (let x = slice_index_or c.args.loose.now c.loop-k.k 0 in
-      let l = c.args.frame.now in
+      let l = c.args.frame.now.types in
       let vs = c.loop-k.values in
       let olds = c.args.values.now in
       let place : x < length vs = omega (arith, w.if-x-len.true, c.len.ensures, c.loop-k.invariant.0.size) in
@@ -40,4 +41,4 @@ loop-k-preserved c = elim c.if-x-len.branch [
 ]
 
 pub returns-clause-value : goal.returns-clause-value
-returns-clause-value c = halfway_end c.args.frame.now c.args.values.now c.loop-k.values (drop c.loop-k.k c.args.loose.now) (drop_of_length-le c.args.loose.now c.loop-k-test.false) c.loop-k.invariant.0 c.loop-k.invariant.1
+returns-clause-value c = halfway_end c.args.frame.now.types c.args.values.now c.loop-k.values (drop c.loop-k.k c.args.loose.now) (drop_of_length-le c.args.loose.now c.loop-k-test.false) c.loop-k.invariant.0 c.loop-k.invariant.1

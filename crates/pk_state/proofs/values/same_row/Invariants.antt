@@ -1,5 +1,5 @@
 use Rattle.std.proofs.Common.{◌≡◌, ◌<◌, ℕ}
-use Rattle.pk_state.specs.Facts.{known_at}
+use Rattle.pk_octagons.specs.Values.{known_at}
 use Rattle.pk_state.proofs.values.same_row.Given as goal
 
 -- so many pass

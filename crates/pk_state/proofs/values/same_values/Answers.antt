@@ -2,7 +2,7 @@ use Rattle.std.proofs.Common.{◌≡◌, ap, refl, sym, ◌∙◌, arith}
 use Rattle.std.proofs.lemmas.List.{ext_get_or}
 use Rattle.pk_ctypes.specs.declared.types.IntType.TheVariants.{Int}
 use Rattle.pk_value.specs.Known.{Known, any_of}
-use Rattle.pk_state.specs.Facts.{known_at}
+use Rattle.pk_octagons.specs.Values.{known_at}
 use Rattle.pk_blocks.proofs.Merging.{never}
 use Rattle.pk_state.proofs.Rows.{rows_more, row_of_all}
 use Rattle.pk_state.proofs.values.same_values.Goals as goal

@@ -1,35 +1,19 @@
-use Rattle.std.proofs.Common.{◌≡◌, ◌∙◌, ◌++◌, ℕ, ap, sym, subst, length, List, map, Option}
-use Rattle.std.specs.List.{flat_map}
-use Rattle.pk_ctypes.specs.declared.types.IntType.{IntType}
-use Rattle.pk_graph.specs.Kinds.{Kinds}
-use Rattle.pk_graph.specs.Graphs.{kinds_of}
+use Rattle.std.proofs.Common.{◌≡◌, ◌∙◌, ◌∷◌, [], ℕ, ap, sym, subst, List}
+use Rattle.std.specs.Prelude.{IfOk, All}
+use Rattle.std.proofs.lemmas.List.Elements.{All-nil, All-cons}
 use Rattle.pk_graph.specs.Shown.{graph_view}
-use Rattle.pk_state.specs.Layouts.{Layout, IsLayout}
-use Rattle.pk_transfer.specs.Slots.{further_types, slot_types, further_from, further_of}
-use Rattle.pk_transfer.specs.Graphs.{kinds_shown, own_types, layout_of}
-use Rattle.pk_transfer.proofs.LayoutLemmas.{kinds_are, slots_made, further_made}
+use Rattle.pk_graph.specs.OctagonVariables.{octagon_variables_of}
+use Rattle.pk_state.specs.Layouts.{Layout}
+use Rattle.pk_transfer.specs.Graphs.{layout_over, IsPackOfGraph}
 use Rattle.pk_transfer.proofs.frames.frame.Goals as goal
 
-pub new-requires : goal.new-requires
-new-requires c =
+pub frame_over-requires : goal.frame_over-requires
+frame_over-requires c =
     let g = graph_view c.args.graph.now in
-    let vs = c.variables-variables.result.now in
-    let are = kinds_are g vs c.variables-variables.ensures in
-    let types = slots_made g vs c.in_ok-types.types.items c.further_slots.new.types.items are c.in_ok-types.ensures c.in_ok-further.ensures.types in
-    let further = further_made g vs c.in_ok-types.types.items c.in_ok-further.further.items are c.in_ok-types.ensures c.in_ok-further.ensures.from in
-    let made = ap (λ (ts : List IntType). let l : Layout = record { types = ts; chosen = c.in_ok-chosen.chosen.items; further = c.in_ok-further.further.items } in l) types
-    ∙ ap (λ (xs : List ℕ). let l : Layout = record { types = slot_types (kinds_of g); chosen = xs; further = c.in_ok-further.further.items } in l) c.in_ok-chosen.ensures
-    ∙ ap (λ (ns : List (Option ℕ)). let l : Layout = record { types = slot_types (kinds_of g); chosen = (layout_of g c.args.oct).chosen; further = ns } in l) further in
-    subst IsLayout (sym made) (c.graphs_law.ensures.layouts g c.args.oct c.requires)
+    subst (All (IsPackOfGraph g)) (sym (c.in_ok-packs.ensures ∙ ap (λ (xs : List ℕ). xs ∷ []) c.in_ok-chosen.ensures))
+    (All-cons (IsPackOfGraph g) (octagon_variables_of g c.args.oct) [] (c.graphs_law.ensures.packs g g.points c.args.oct c.requires) (All-nil (IsPackOfGraph g)))
 
 pub returns : goal.returns
 returns c =
     let g = graph_view c.args.graph.now in
-    let vs = c.variables-variables.result.now in
-    let are = kinds_are g vs c.variables-variables.ensures in
-    let types = slots_made g vs c.in_ok-types.types.items c.further_slots.new.types.items are c.in_ok-types.ensures c.in_ok-further.ensures.types in
-    let further = further_made g vs c.in_ok-types.types.items c.in_ok-further.further.items are c.in_ok-types.ensures c.in_ok-further.ensures.from in
-    c.new.ensures
-    ∙ ap (λ (ts : List IntType). let l : Layout = record { types = ts; chosen = c.in_ok-chosen.chosen.items; further = c.in_ok-further.further.items } in l) types
-    ∙ ap (λ (xs : List ℕ). let l : Layout = record { types = slot_types (kinds_of g); chosen = xs; further = c.in_ok-further.further.items } in l) c.in_ok-chosen.ensures
-    ∙ ap (λ (ns : List (Option ℕ)). let l : Layout = record { types = slot_types (kinds_of g); chosen = (layout_of g c.args.oct).chosen; further = ns } in l) further
+    subst (λ (ps : List (List ℕ)). IfOk c.frame_over.result (λ (f : Layout). f ≡ layout_over g ps)) (c.in_ok-packs.ensures ∙ ap (λ (xs : List ℕ). xs ∷ []) c.in_ok-chosen.ensures) c.frame_over.ensures

@@ -1,10 +1,10 @@
-use Rattle.std.proofs.Common.{◌≡◌, ◌∙◌, ◌+◌, ◌++◌, ℕ, ap, sym, length, List, [], ◌∷◌, take, replicate, arith, Option, Some, None, if◌then◌else◌}
+use Rattle.std.proofs.Common.{◌∙◌, ◌++◌, ℕ, ap, length, List, [], ◌∷◌, take, replicate, Option, Some, None, if◌then◌else◌}
 use Rattle.std.specs.List.{flat_map}
 use Rattle.std.proofs.lemmas.List.{length-append}
 use Rattle.pk_ctypes.specs.declared.types.IntType.{IntType}
 use Rattle.pk_graph.specs.declared.graphs.Variable.{Variable}
 use Rattle.pk_graph.specs.Graphs.{variable_view}
-use Rattle.pk_transfer.specs.Slots.{is_small, further_count, further_types}
+use Rattle.pk_transfer.specs.Slots.{is_small, further_types}
 use Rattle.pk_transfer.specs.Graphs.{kinds_shown}
 use Rattle.pk_transfer.proofs.LayoutLemmas.{further_next, from_next}
 use Rattle.pk_transfer.proofs.frames.further_slots.Goals as goal

@@ -4,7 +4,7 @@ use Rattle.pk_graph.specs.declared.instructions.Instr.{Instr}
 use Rattle.pk_graph.specs.Trees.{Set, Havoc, Clear, Load, Store, Guard, Check}
 use Rattle.pk_graph.specs.Kinds.{IsTypedInstr}
 use Rattle.pk_graph.specs.Views.{tree_view, array_view, instr_view}
-use Rattle.pk_state.specs.Changes.{IsValue}
+use Rattle.pk_octagons.specs.Values.{IsValue}
 use Rattle.pk_transfer.specs.Slots.{HasSlots}
 use Rattle.pk_transfer.proofs.Slotting.{own_type, has_slots, array_slots}
 use Rattle.pk_transfer.proofs.Over.{tree_over, fits_over}

@@ -1,4 +1,4 @@
-use Rattle.std.proofs.Common.{◌∙◌, ℕ, ap, arith}
+use Rattle.std.proofs.Common.{◌∙◌, ℕ, ap}
 use Rattle.pk_state.specs.Changes.{with_known}
 use Rattle.pk_transfer.proofs.EachLemmas.{each_next, each_end}
 use Rattle.pk_transfer.proofs.transfers.known_each.Goals as goal

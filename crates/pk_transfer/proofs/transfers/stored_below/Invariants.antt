@@ -1,4 +1,3 @@
-use Rattle.std.proofs.Common.{◌≡◌}
 use Rattle.pk_transfer.specs.Assignments.{HasFacts}
 use Rattle.pk_transfer.specs.Transfers.{stored_below}
 use Rattle.pk_transfer.proofs.transfers.stored_below.Given as goal

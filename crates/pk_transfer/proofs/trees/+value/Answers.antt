@@ -5,7 +5,7 @@ use Rattle.pk_graph.specs.declared.trees.Tree.{Tree}
 use Rattle.pk_graph.specs.Trees.{unary, binary}
 use Rattle.pk_graph.specs.Kinds.{IsTyped, type_of}
 use Rattle.pk_graph.specs.Views.{tree_view}
-use Rattle.pk_state.specs.Changes.{IsValue}
+use Rattle.pk_octagons.specs.Values.{IsValue}
 use Rattle.pk_transfer.specs.Trees.{kinds_of}
 use Rattle.pk_transfer.proofs.Told.{unary_right, left_in, binary_right, value_from}
 use Rattle.pk_transfer.proofs.trees.+value.Goals as goal

@@ -1,8 +1,9 @@
 use Rattle.std.proofs.Common.{ap, sym, subst}
 use Rattle.std.specs.Prelude.{◌≡◌, ◌<◌, length}
-use Rattle.pk_state.specs.Layouts.{Layout, type_at}
+use Rattle.pk_octagons.specs.Values.{type_at, IsValue}
+use Rattle.pk_state.specs.Layouts.{Layout}
 use Rattle.pk_state.specs.Facts.{Stated}
-use Rattle.pk_state.specs.Changes.{IsValue, IsApart}
+use Rattle.pk_state.specs.Changes.{IsApart}
 use Rattle.pk_state.proofs.Changed.{changes_stay}
 use Rattle.pk_state.proofs.Settled.{settled_write}
 use Rattle.pk_state.proofs.state.State.with_value.Goals as goal
@@ -13,7 +14,7 @@ invariant_of-result c =
     let mine : c.args.self.layout ≡ l = sym (ap (λ (s : Stated). s.layout) c.self.view_is) in (
       c.self.invariant.0,
       rw c.in_ok-facts.ensures (changes_stay.written l c.self.inside.facts c.args.x c.args.value c.self.invariant.1 (subst (λ k. c.args.x < length k.types) mine c.requires.place)
-          (subst (λ (k : Layout). IsValue (type_at k c.args.x) c.args.value) mine c.requires.value)),
+          (subst (λ (k : Layout). IsValue (type_at k.types c.args.x) c.args.value) mine c.requires.value)),
       λ yes.
           let s = c.stays_settled-settled.ensures yes in
           let apart : IsApart l c.args.x = s.2 in

@@ -1,8 +1,0 @@
-use Rattle.std.proofs.Common.{◌≡◌}
-use Rattle.pk_octmarks.specs.Marks.{IsMarked}
-use Rattle.pk_state.specs.Reduced.{by_ranges}
-use Rattle.pk_state.proofs.octagons.lower_all.Given as goal
-
--- lowered by so many
-abbrev pub invariant-loop-k : goal.invariant-loop-k
-invariant-loop-k l = (l.m ≡ by_ranges l.frame l.values l.k l.fn.m) × (l.m.vars ≡ l.fn.m.vars) × (IsMarked l.fn.mark l.fn.m → IsMarked l.known l.m)
