@@ -8,4 +8,5 @@ mod FlowLemmas
 mod NowhereLemmas
 pub mod OrderLemmas
 mod StateLemmas
+pub mod Layouting
 pub mod Shared

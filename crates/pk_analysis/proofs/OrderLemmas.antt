@@ -6,12 +6,15 @@ use Rattle.std.specs.Ordering.{int_eq}
 use Rattle.std.proofs.lemmas.Bool.Decides.{Decides-int_eq, Decides-eqb}
 use Rattle.pk_value.specs.Known.{Known, is_within}
 use Rattle.pk_octmat.specs.Bounds.{AtMost, is_at_most}
-use Rattle.pk_octmat.specs.Octagon.{entry, cell_at}
+use Rattle.pk_octmat.specs.Octagon.{Octagon, entry, cell_at, IsOctagon}
 use Rattle.pk_octops.specs.Tables as tables
 use Rattle.pk_octops.proofs.Pointwise.{at_most_from, not_at_most, cells_below, cells_at}
+use Rattle.pk_octagons.specs.Values.{known_at}
+use Rattle.pk_octagons.specs.Octagons.{octagon_at, AreOctagons, AreBelow}
+use Rattle.pk_octagons.proofs.Sound.{first_of, no_octagons, no_packs}
 use Rattle.pk_state.specs.Layouts.{Layout}
-use Rattle.pk_state.specs.Facts.{Facts, known_at, AreFactsIf, AreFacts, AreWithin, IsBelow}
-use Rattle.pk_analysis.specs.Orders.{values_within, bounds_within, is_below, same_known, same_values, same_bound, same_bounds, same_octagon, is_same}
+use Rattle.pk_state.specs.Facts.{Facts, AreFactsIf, AreFacts, AreWithin, IsBelow}
+use Rattle.pk_analysis.specs.Orders.{values_within, bounds_within, octagons_within, is_below, same_known, same_values, same_bound, same_bounds, same_octagon, same_octagons, is_same}
 
 split : (a b : Bool) → (a && b) ≡ true → (a ≡ true) × (b ≡ true)
 split true true e = (refl, refl)
@@ -54,33 +57,54 @@ values_to [] ys s h = refl
 values_to (x ∷ xs) [] s h = refl
 values_to (x ∷ xs) (y ∷ ys) s h = both (is_within x y) (values_within xs ys) (h 0 (omega arith)) (values_to xs ys (omega (arith, s)) (λ k l. h (suc k) (omega arith)))
 
+module _ (a b : Octagon) (f : IsOctagon a) (g : IsOctagon b) (same_vars : b.vars ≡ a.vars) where
+  as_large : length a.cells ≡ length b.cells
+  as_large = f.whole.size ∙ ap (λ (n : ℕ). 2 * n * (2 * n)) (sym same_vars) ∙ sym g.whole.size
+
+  entry_is : (i j : ℕ) → entry b i j ≡ cell_at (2 * a.vars) b.cells i j
+  entry_is i j = ap (λ (n : ℕ). cell_at (2 * n) b.cells i j) same_vars
+
+  octagon_from : bounds_within a.cells b.cells ≡ true → tables.IsBelow a b
+  octagon_from e = record {
+    each = λ i j. subst (λ (o : Option ℤ). AtMost (entry a i j) o) (sym (entry_is i j))
+        (cells_below (2 * a.vars) a.cells b.cells (length a.cells) f.whole.size (omega arith) (λ k h. bounds_from a.cells b.cells k as_large e h) i j);
+  }
+
+  pub octagon_to : tables.IsBelow a b → bounds_within a.cells b.cells ≡ true
+  octagon_to h = bounds_to a.cells b.cells as_large
+      (λ k l. cells_at (2 * a.vars) a.cells b.cells k f.whole.size l (λ i j. subst (λ (o : Option ℤ). AtMost (entry a i j) o) (entry_is i j) (h.each i j)))
+
+octagons_from : (packs : List (List ℕ)) (ms ns : List Octagon) → AreOctagons packs ms → AreOctagons packs ns → octagons_within ms ns ≡ true → (p : ℕ) → p < length ms → tables.IsBelow (octagon_at ms p) (octagon_at ns p)
+octagons_from [] [] ns h k e p q = absurd (omega (arith, q))
+octagons_from [] (m ∷ ms) ns h k e p q = no_packs m ms h
+octagons_from (c ∷ packs) [] ns h k e p q = no_octagons c packs h
+octagons_from (c ∷ packs) (m ∷ ms) [] h k e p q = no_octagons c packs k
+octagons_from (c ∷ packs) (m ∷ ms) (n ∷ ns) h k e zero q =
+    let f = first_of c packs m ms h in
+    let g = first_of c packs n ns k in
+    octagon_from m n f.octagon g.octagon (g.vars ∙ sym f.vars) (split (bounds_within m.cells n.cells) (octagons_within ms ns) e).0
+octagons_from (c ∷ packs) (m ∷ ms) (n ∷ ns) h k e (suc p) q =
+    octagons_from packs ms ns (first_of c packs m ms h).rest (first_of c packs n ns k).rest (split (bounds_within m.cells n.cells) (octagons_within ms ns) e).1 p (omega (arith, q))
+
+octagons_to : (packs : List (List ℕ)) (ms ns : List Octagon) → AreOctagons packs ms → AreOctagons packs ns → AreBelow ms ns → octagons_within ms ns ≡ true
+octagons_to [] [] ns h k b = refl
+octagons_to [] (m ∷ ms) ns h k b = no_packs m ms h
+octagons_to (c ∷ packs) [] ns h k b = refl
+octagons_to (c ∷ packs) (m ∷ ms) [] h k b = refl
+octagons_to (c ∷ packs) (m ∷ ms) (n ∷ ns) h k b =
+    let f = first_of c packs m ms h in
+    let g = first_of c packs n ns k in
+    both (bounds_within m.cells n.cells) (octagons_within ms ns) (octagon_to m n f.octagon g.octagon (g.vars ∙ sym f.vars) (b 0 (omega arith))) (octagons_to packs ms ns f.rest g.rest (λ p q. b (suc p) (omega (arith, q))))
+
 module _ (l : Layout) (a b : Facts) (f : AreFacts l a) (g : AreFacts l b) where
   as_many : length a.values ≡ length b.values
   as_many = f.values.size ∙ sym g.values.size
 
-  same_vars : b.octagon.vars ≡ a.octagon.vars
-  same_vars = g.vars ∙ sym f.vars
-
-  as_large : length a.octagon.cells ≡ length b.octagon.cells
-  as_large = f.octagon.whole.size ∙ ap (λ (n : ℕ). 2 * n * (2 * n)) (sym same_vars) ∙ sym g.octagon.whole.size
-
-  entry_is : (i j : ℕ) → entry b.octagon i j ≡ cell_at (2 * a.octagon.vars) b.octagon.cells i j
-  entry_is i j = ap (λ (n : ℕ). cell_at (2 * n) b.octagon.cells i j) same_vars
-
-  octagon_from : bounds_within a.octagon.cells b.octagon.cells ≡ true → tables.IsBelow a.octagon b.octagon
-  octagon_from e = record {
-    each = λ i j. subst (λ (o : Option ℤ). AtMost (entry a.octagon i j) o) (sym (entry_is i j))
-        (cells_below (2 * a.octagon.vars) a.octagon.cells b.octagon.cells (length a.octagon.cells) f.octagon.whole.size (omega arith) (λ k h. bounds_from a.octagon.cells b.octagon.cells k as_large e h) i j);
-  }
-
-  pub octagon_to : tables.IsBelow a.octagon b.octagon → bounds_within a.octagon.cells b.octagon.cells ≡ true
-  octagon_to h = bounds_to a.octagon.cells b.octagon.cells as_large
-      (λ k l. cells_at (2 * a.octagon.vars) a.octagon.cells b.octagon.cells k f.octagon.whole.size l (λ i j. subst (λ (o : Option ℤ). AtMost (entry a.octagon i j) o) (entry_is i j) (h.each i j)))
-
-  within_decides : Decides (values_within a.values b.values && bounds_within a.octagon.cells b.octagon.cells) (AreWithin a b)
+  within_decides : Decides (values_within a.values b.values && octagons_within a.octagons b.octagons) (AreWithin a b)
   within_decides = (
-    (λ e. let s = split (values_within a.values b.values) (bounds_within a.octagon.cells b.octagon.cells) e in record { values = λ x h. values_from a.values b.values x as_many s.0 h; octagon = octagon_from s.1 }),
-    (λ h. both (values_within a.values b.values) (bounds_within a.octagon.cells b.octagon.cells) (values_to a.values b.values as_many h.values) (octagon_to h.octagon)),
+    (λ e. let s = split (values_within a.values b.values) (octagons_within a.octagons b.octagons) e in
+        record { values = λ x h. values_from a.values b.values x as_many s.0 h; octagons = octagons_from l.packs a.octagons b.octagons f.octagons g.octagons s.1 }),
+    (λ h. both (values_within a.values b.values) (octagons_within a.octagons b.octagons) (values_to a.values b.values as_many h.values) (octagons_to l.packs a.octagons b.octagons f.octagons g.octagons h.octagons)),
   )
 
 pub below_decides : (l : Layout) (a b : Option Facts) → AreFactsIf l a → AreFactsIf l b → Decides (is_below a b) (IsBelow a b)
@@ -136,16 +160,32 @@ bounds_same (x ∷ xs) (y ∷ ys) =
       (λ e. let one : x ≡ y = cc in let other : xs ≡ ys = cc in both (same_bound x y) (same_bounds xs ys) (first.1 one) (rest.1 other)),
     )
 
+octagon_decides : (a b : Octagon) → Decides (same_octagon a b) (a ≡ b)
+octagon_decides a b = (
+  (λ e. let t = split (a.vars == b.vars) (same_bounds a.cells b.cells) e in
+      ap (λ (n : ℕ). let m : Octagon = record { vars = n; cells = a.cells } in m) ((Decides-eqb a.vars b.vars).0 t.0)
+      ∙ ap (λ (cs : List (Option ℤ)). let m : Octagon = record { vars = b.vars; cells = cs } in m) ((bounds_same a.cells b.cells).0 t.1)),
+  (λ e. both (a.vars == b.vars) (same_bounds a.cells b.cells) ((Decides-eqb a.vars b.vars).1 (ap (λ (m : Octagon). m.vars) e)) ((bounds_same a.cells b.cells).1 (ap (λ (m : Octagon). m.cells) e))),
+)
+
+octagons_same : (ms ns : List Octagon) → Decides (same_octagons ms ns) (ms ≡ ns)
+octagons_same [] [] = ((λ e. refl), (λ e. refl))
+octagons_same [] (n ∷ ns) = ((λ e. absurd (cc)), (λ e. absurd (cc)))
+octagons_same (m ∷ ms) [] = ((λ e. absurd (cc)), (λ e. absurd (cc)))
+octagons_same (m ∷ ms) (n ∷ ns) =
+    let first = octagon_decides m n in
+    let rest = octagons_same ms ns in (
+      (λ e. let s = split (same_octagon m n) (same_octagons ms ns) e in let one = first.0 s.0 in let other = rest.0 s.1 in cc),
+      (λ e. let one : m ≡ n = cc in let other : ms ≡ ns = cc in both (same_octagon m n) (same_octagons ms ns) (first.1 one) (rest.1 other)),
+    )
+
 facts_same : (a b : Facts) → Decides (is_same (Some a) (Some b)) (Some a ≡ Some b)
 facts_same a b = (
-  (λ e. let s = split (same_values a.values b.values) (same_octagon a.octagon b.octagon) e in
-      let t = split (a.octagon.vars == b.octagon.vars) (same_bounds a.octagon.cells b.octagon.cells) s.1 in
-      ap (λ (vs : List Known). let f : Facts = record { values = vs; octagon = a.octagon } in Some f) ((values_same a.values b.values).0 s.0)
-      ∙ ap (λ (n : ℕ). let f : Facts = record { values = b.values; octagon = record { vars = n; cells = a.octagon.cells } } in Some f) ((Decides-eqb a.octagon.vars b.octagon.vars).0 t.0)
-      ∙ ap (λ (cs : List (Option ℤ)). let f : Facts = record { values = b.values; octagon = record { vars = b.octagon.vars; cells = cs } } in Some f) ((bounds_same a.octagon.cells b.octagon.cells).0 t.1)),
+  (λ e. let s = split (same_values a.values b.values) (same_octagons a.octagons b.octagons) e in
+      ap (λ (vs : List Known). let f : Facts = record { values = vs; octagons = a.octagons } in Some f) ((values_same a.values b.values).0 s.0)
+      ∙ ap (λ (ms : List Octagon). let f : Facts = record { values = b.values; octagons = ms } in Some f) ((octagons_same a.octagons b.octagons).0 s.1)),
   (λ e. let one : a ≡ b = cc in
-      both (same_values a.values b.values) (same_octagon a.octagon b.octagon) ((values_same a.values b.values).1 (ap (λ (f : Facts). f.values) one))
-      (both (a.octagon.vars == b.octagon.vars) (same_bounds a.octagon.cells b.octagon.cells) ((Decides-eqb a.octagon.vars b.octagon.vars).1 (ap (λ (f : Facts). f.octagon.vars) one)) ((bounds_same a.octagon.cells b.octagon.cells).1 (ap (λ (f : Facts). f.octagon.cells) one)))),
+      both (same_values a.values b.values) (same_octagons a.octagons b.octagons) ((values_same a.values b.values).1 (ap (λ (f : Facts). f.values) one)) ((octagons_same a.octagons b.octagons).1 (ap (λ (f : Facts). f.octagons) one))),
 )
 
 pub same_decides : (a b : Option Facts) → Decides (is_same a b) (a ≡ b)

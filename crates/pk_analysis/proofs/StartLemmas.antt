@@ -10,12 +10,12 @@ use Rattle.pk_graph.specs.declared.graphs.Variable.{Variable}
 use Rattle.pk_graph.specs.Graphs.{VariableOf, GraphOf, no_variable, variable_view, kinds_of}
 use Rattle.pk_graph.specs.WellMade.{IsGraph, IsStartOf}
 use Rattle.pk_value.specs.Known.{Known, any_of, exactly, joined}
-use Rattle.pk_octmat.specs.Octagon.{octagon_of, top_bound}
-use Rattle.pk_state.specs.Layouts.{Layout, type_at}
+use Rattle.pk_octagons.specs.Octagons.{top_octagons}
+use Rattle.pk_octagons.specs.Values.{type_at, IsValue}
+use Rattle.pk_state.specs.Layouts.{Layout}
 use Rattle.pk_state.specs.Facts.{Stated}
-use Rattle.pk_state.specs.Changes.{IsValue, with_known}
-use Rattle.pk_transfer.specs.Graphs.{kinds_shown, own_types, layout_of}
-use Rattle.pk_graph.specs.Kinds.{Kind, no_kind}
+use Rattle.pk_state.specs.Changes.{with_known}
+use Rattle.pk_transfer.specs.Graphs.{kinds_shown, own_types, layout_over}
 use Rattle.pk_transfer.specs.Slots.{further_types, slot_types}
 use Rattle.pk_transfer.proofs.LayoutLemmas.{types_next, further_next, kinds_are}
 use Rattle.pk_analysis.specs.Starts.{joined_with, known_of_numbers, known_of_number, own_known, further_known, start_values, start_facts, AreTyped}
@@ -24,7 +24,7 @@ use Rattle.pk_analysis.proofs.TypedLemmas.{typed_many, typed_at, typed_append}
 
 -- the first k slots are known
 abbrev pub IsStartedTo : GraphOf → Layout → ℕ → Stated → Type 0
-IsStartedTo g l k s = s ≡ stated l (Some (record { values = take k (start_values g.variables) ++ drop k (map any_of l.types); octagon = octagon_of (length l.chosen) top_bound }))
+IsStartedTo g l k s = s ≡ stated l (Some (record { values = take k (start_values g.variables) ++ drop k (map any_of l.types); octagons = top_octagons l.packs }))
 
 -- the first of the numbers, and the others
 pub of_first : (short : Bool) (xs : List ℤ) → 1 ≤ length xs
@@ -38,37 +38,37 @@ set_next (a ∷ news) [] k d h e = absurd (omega (arith, e))
 set_next (a ∷ news) (b ∷ olds) zero d h e = refl
 set_next (a ∷ news) (b ∷ olds) (suc k) d h e = ap (λ (ks : List Known). a ∷ ks) (set_next news olds k d (omega arith) (omega (arith, e)))
 
-pub started_next : (g : GraphOf) (l : Layout) (oct k : ℕ) (old new : Stated) (vs : List Known) (d : Known) → l ≡ layout_of g oct → vs ≡ start_values g.variables → AreTyped vs (slot_types (kinds_of g)) → k < length vs → IsStartedTo g l k old
+pub started_next : (g : GraphOf) (l : Layout) (packs : List (List ℕ)) (k : ℕ) (old new : Stated) (vs : List Known) (d : Known) → l ≡ layout_over g packs → vs ≡ start_values g.variables → AreTyped vs (slot_types (kinds_of g)) → k < length vs → IsStartedTo g l k old
     → new ≡ stated l (with_known old.facts k (slice_index_or vs k d)) → IsStartedTo g l (k + 1) new
-started_next g l oct k old new vs d is all typed h so made =
+started_next g l packs k old new vs d is all typed h so made =
     let us = start_values g.variables in
     let many : length us ≡ length (map any_of l.types) =
     ap (λ (ks : List Known). length ks) (sym all) ∙ typed_many vs (slot_types (kinds_of g)) typed ∙ sym (length-map l.types any_of ∙ ap (λ (y : Layout). length y.types) is) in
     let here : k < length us = subst (λ (ks : List Known). k < length ks) all h in
     let next : k + 1 ≡ suc k = omega arith in
     made ∙ ap (λ (v : Known). stated l (with_known old.facts k v)) (get_or_default vs k d (any_of Int) h) ∙ ap (λ (s : Stated). stated l (with_known s.facts k (slice_index_or vs k (any_of Int)))) so
-    ∙ ap (λ (ks : List Known). stated l (with_known (Some (record { values = take k us ++ drop k (map any_of l.types); octagon = octagon_of (length l.chosen) top_bound })) k (slice_index_or ks k (any_of Int)))) all
-    ∙ ap (λ (ks : List Known). stated l (Some (record { values = ks; octagon = octagon_of (length l.chosen) top_bound }))) (set_next us (map any_of l.types) k (any_of Int) here many)
-    ∙ sym (ap (λ (n : ℕ). stated l (Some (record { values = take n us ++ drop n (map any_of l.types); octagon = octagon_of (length l.chosen) top_bound }))) next)
+    ∙ ap (λ (ks : List Known). stated l (with_known (Some (record { values = take k us ++ drop k (map any_of l.types); octagons = top_octagons l.packs })) k (slice_index_or ks k (any_of Int)))) all
+    ∙ ap (λ (ks : List Known). stated l (Some (record { values = ks; octagons = top_octagons l.packs }))) (set_next us (map any_of l.types) k (any_of Int) here many)
+    ∙ sym (ap (λ (n : ℕ). stated l (Some (record { values = take n us ++ drop n (map any_of l.types); octagons = top_octagons l.packs }))) next)
 
-values_many : (g : GraphOf) (l : Layout) (oct : ℕ) (vs : List Known) → l ≡ layout_of g oct → AreTyped vs (slot_types (kinds_of g)) → length vs ≡ length l.types
-values_many g l oct vs is typed = typed_many vs (slot_types (kinds_of g)) typed ∙ ap (λ (y : Layout). length y.types) (sym is)
+values_many : (g : GraphOf) (l : Layout) (packs : List (List ℕ)) (vs : List Known) → l ≡ layout_over g packs → AreTyped vs (slot_types (kinds_of g)) → length vs ≡ length l.types
+values_many g l packs vs is typed = typed_many vs (slot_types (kinds_of g)) typed ∙ ap (λ (y : Layout). length y.types) (sym is)
 
-pub value_there : (g : GraphOf) (l : Layout) (oct : ℕ) (vs : List Known) (j : ℕ) → l ≡ layout_of g oct → AreTyped vs (slot_types (kinds_of g)) → j < length vs → j < length l.types
-value_there g l oct vs j is typed h = omega (arith, h, values_many g l oct vs is typed)
+pub value_there : (g : GraphOf) (l : Layout) (packs : List (List ℕ)) (vs : List Known) (j : ℕ) → l ≡ layout_over g packs → AreTyped vs (slot_types (kinds_of g)) → j < length vs → j < length l.types
+value_there g l packs vs j is typed h = omega (arith, h, values_many g l packs vs is typed)
 
-pub value_typed : (g : GraphOf) (l : Layout) (oct : ℕ) (vs : List Known) (j : ℕ) (d : Known) → l ≡ layout_of g oct → AreTyped vs (slot_types (kinds_of g)) → j < length vs → IsValue (type_at l j) (slice_index_or vs j d)
-value_typed g l oct vs j d is typed h = subst (λ (y : Layout). IsValue (type_at y j) (slice_index_or vs j d)) (sym is) (typed_at vs (slot_types (kinds_of g)) j d Int typed h)
+pub value_typed : (g : GraphOf) (l : Layout) (packs : List (List ℕ)) (vs : List Known) (j : ℕ) (d : Known) → l ≡ layout_over g packs → AreTyped vs (slot_types (kinds_of g)) → j < length vs → IsValue (type_at l.types j) (slice_index_or vs j d)
+value_typed g l packs vs j d is typed h = subst (λ (y : Layout). IsValue (type_at y.types j) (slice_index_or vs j d)) (sym is) (typed_at vs (slot_types (kinds_of g)) j d Int typed h)
 
 -- all are known
-pub started_whole : (g : GraphOf) (l : Layout) (oct k : ℕ) (s : Stated) (vs : List Known) → l ≡ layout_of g oct → vs ≡ start_values g.variables → AreTyped vs (slot_types (kinds_of g)) → length vs ≤ k → IsStartedTo g l k s → s ≡ stated l (Some (start_facts g l))
-started_whole g l oct k s vs is all typed h so =
+pub started_whole : (g : GraphOf) (l : Layout) (packs : List (List ℕ)) (k : ℕ) (s : Stated) (vs : List Known) → l ≡ layout_over g packs → vs ≡ start_values g.variables → AreTyped vs (slot_types (kinds_of g)) → length vs ≤ k → IsStartedTo g l k s → s ≡ stated l (Some (start_facts g l))
+started_whole g l packs k s vs is all typed h so =
     let us = start_values g.variables in
     let here : length us ≤ k = subst (λ (ks : List Known). length ks ≤ k) all h in
-    let many = length-map l.types any_of ∙ sym (values_many g l oct vs is typed) in
+    let many = length-map l.types any_of ∙ sym (values_many g l packs vs is typed) in
     let none : drop k (map any_of l.types) ≡ [] = drop_all k (map any_of l.types) (omega (arith, h, many)) in
-    so ∙ ap (λ (ks : List Known). stated l (Some (record { values = take k us ++ ks; octagon = octagon_of (length l.chosen) top_bound }))) none
-    ∙ ap (λ (ks : List Known). stated l (Some (record { values = ks; octagon = octagon_of (length l.chosen) top_bound }))) (append-nil (take k us) ∙ take_all k us here)
+    so ∙ ap (λ (ks : List Known). stated l (Some (record { values = take k us ++ ks; octagons = top_octagons l.packs }))) none
+    ∙ ap (λ (ks : List Known). stated l (Some (record { values = ks; octagons = top_octagons l.packs }))) (append-nil (take k us) ∙ take_all k us here)
 
 -- a variable of the code is one of the graph
 pub shown : (g : GraphOf) (vs : List Variable) (k : ℕ) (d : Variable) → map variable_view vs ≡ g.variables → k < length vs → slice_index_or g.variables k no_variable ≡ variable_view (slice_index_or vs k d)

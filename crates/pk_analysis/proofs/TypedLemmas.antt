@@ -3,7 +3,7 @@ use Rattle.std.proofs.Common.{◌≡◌, ◌<◌, ℕ, zero, suc, ap, refl, List
 use Rattle.std.specs.List.{slice_index_or}
 use Rattle.pk_ctypes.specs.declared.types.IntType.{IntType}
 use Rattle.pk_value.specs.Known.{Known}
-use Rattle.pk_state.specs.Changes.{IsValue}
+use Rattle.pk_octagons.specs.Values.{IsValue}
 use Rattle.pk_analysis.specs.Starts.{AreTyped}
 
 pub typed_many : (ks : List Known) (ts : List IntType) → AreTyped ks ts → length ks ≡ length ts

@@ -6,4 +6,5 @@ pub mod Orders
 pub mod Flows
 pub mod Reading
 pub mod Keeping
+pub mod Layouts
 pub mod Made

@@ -17,10 +17,15 @@ bounds_within [] bs = true
 bounds_within (a ∷ others) [] = true
 bounds_within (a ∷ others) (b ∷ bs) = is_at_most a b && bounds_within others bs
 
+abbrev pub octagons_within : List Octagon → List Octagon → Bool
+octagons_within [] bs = true
+octagons_within (a ∷ others) [] = true
+octagons_within (a ∷ others) (b ∷ bs) = bounds_within a.cells b.cells && octagons_within others bs
+
 abbrev pub is_below : Option Facts → Option Facts → Bool
 is_below None b = true
 is_below (Some a) None = false
-is_below (Some a) (Some b) = values_within a.values b.values && bounds_within a.octagon.cells b.octagon.cells
+is_below (Some a) (Some b) = values_within a.values b.values && octagons_within a.octagons b.octagons
 
 abbrev pub same_known : Known → Known → Bool
 same_known a b =
@@ -48,8 +53,14 @@ same_bounds (a ∷ others) (b ∷ bs) = same_bound a b && same_bounds others bs
 abbrev pub same_octagon : Octagon → Octagon → Bool
 same_octagon a b = (a.vars == b.vars) && same_bounds a.cells b.cells
 
+abbrev pub same_octagons : List Octagon → List Octagon → Bool
+same_octagons [] [] = true
+same_octagons [] (b ∷ bs) = false
+same_octagons (a ∷ others) [] = false
+same_octagons (a ∷ others) (b ∷ bs) = same_octagon a b && same_octagons others bs
+
 abbrev pub is_same : Option Facts → Option Facts → Bool
 is_same None None = true
 is_same None (Some b) = false
 is_same (Some a) None = false
-is_same (Some a) (Some b) = same_values a.values b.values && same_octagon a.octagon b.octagon
+is_same (Some a) (Some b) = same_values a.values b.values && same_octagons a.octagons b.octagons

@@ -5,10 +5,10 @@ use Rattle.pk_ctypes.specs.declared.types.IntType.{IntType}
 use Rattle.pk_graph.specs.Kinds.{count_of}
 use Rattle.pk_graph.specs.Graphs.{VariableOf, StartOf, any_start, number_start, GraphOf}
 use Rattle.pk_value.specs.Known.{Known, any_of, exactly, joined}
-use Rattle.pk_octmat.specs.Octagon.{octagon_of, top_bound}
+use Rattle.pk_octagons.specs.Values.{IsValue}
+use Rattle.pk_octagons.specs.Octagons.{top_octagons}
 use Rattle.pk_state.specs.Layouts.{Layout}
 use Rattle.pk_state.specs.Facts.{Facts}
-use Rattle.pk_state.specs.Changes.{IsValue}
 use Rattle.pk_transfer.specs.Slots.{is_small, further_count}
 
 abbrev pub joined_with : Known → List ℤ → Known
@@ -44,7 +44,7 @@ abbrev pub start_values : List VariableOf → List Known
 start_values xs = map own_known xs ++ flat_map further_known xs
 
 abbrev pub start_facts : GraphOf → Layout → Facts
-start_facts g l = record { values = start_values g.variables; octagon = octagon_of (length l.chosen) top_bound }
+start_facts g l = record { values = start_values g.variables; octagons = top_octagons l.packs }
 
 -- values of these types, one by one
 abbrev pub AreTyped : List Known → List IntType → Type 0

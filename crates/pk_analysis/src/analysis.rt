@@ -1,13 +1,17 @@
 // The analysis of a graph, as a system that is iterated.
 
-ghost use Rattle.std.specs.Prelude.{◌≡◌, ◌<◌, ◌≤◌, ◌^◌, IfOk, length, replicate};
+ghost use Rattle.std.specs.Prelude.{◌≡◌, ◌<◌, ◌≤◌, ◌^◌, IfOk, length, replicate, false};
+ghost use Rattle.pk_graph.specs.Graphs.{kinds_of};
 ghost use Rattle.pk_graph.specs.Shown.{graph_view};
-ghost use Rattle.pk_transfer.specs.Graphs.{layout_of};
+ghost use Rattle.pk_transfer.specs.Graphs.{layout_of, layout_over};
+ghost use Rattle.pk_transfer.specs.Trees.{IsOver};
 ghost use Rattle.pk_phases.specs.declared.equations.Part.TheVariants.{Point};
+ghost use Rattle.pk_analysis.specs.Layouts.{layout_for, HasFewPacks};
 ghost use Rattle.pk_analysis.specs.Made.{IsAnalysisOf, IsFlowOf};
 
 use crate::arrows::arrows;
 use crate::flow::Flow;
+use crate::laws::layouts_law;
 use crate::parts::parts;
 use crate::reads::reads;
 use crate::starts::start;
@@ -22,12 +26,14 @@ use std::alloc::{AllocError, Global};
 use std::marker::Model;
 use std::sync::Arc;
 
-/// How often a component's head joins before it widens, how often it is narrowed, and over how many variables the octagon is at most.
+/// How often a component's head joins before it widens, how often it is narrowed, over how many variables an octagon is at most, and
+/// whether there is one for each pack of variables.
 #[derive(Clone, Copy)]
 pub struct Options {
     pub delay: u32,
     pub narrow: u32,
     pub oct: usize,
+    pub packs: bool,
 }
 
 /// The equations of a graph's points, iterated by the phases.
@@ -48,7 +54,7 @@ impl<'g> Model for Analysis<'g> {
     ghost view = { λ a. a.phased.equations };
 }
 
-// The analysis of a graph with these heads and exits.
+// The analysis of a graph with these heads and exits, over a layout of its variables.
 fn analysed<'g>(
     alloc: Global,
     graph: &'g Graph,
@@ -58,10 +64,10 @@ fn analysed<'g>(
 ) -> Result<Analysis<'g>, AllocError>
     requires points { length (graph_view graph.now).points ≤ length parts.items }
     requires few { length parts.items < 2 ^ 32 }
-    requires frame { frame.now ≡ layout_of (graph_view graph.now) options.oct }
-    ensures { IfOk result (IsFlowOf (graph_view graph.now) parts.items options) }
+    requires frame { frame.now ≡ layout_over (graph_view graph.now) frame.now.packs }
+    requires over { IsOver (kinds_of (graph_view graph.now)) frame.now }
+    ensures { IfOk result (IsFlowOf (graph_view graph.now) parts.items frame.now options) }
 {
-    graphs_law();
     let thresholds = thresholds(alloc, graph)?;
     let arrows = arrows(alloc, graph)?;
     let reads = reads(alloc, &arrows, &parts)?;
@@ -93,16 +99,18 @@ impl<'g> Analysis<'g> {
         options: Options,
     ) -> Result<Analysis<'g>, AllocError>
         requires plan { plan.now.points ≡ length (graph_view graph.now).points }
-        requires frame { frame.now ≡ layout_of (graph_view graph.now) options.oct }
+        requires frame { frame.now ≡ layout_for (graph_view graph.now) plan.now options }
+        requires few { HasFewPacks plan.now options }
         ensures { IfOk result (IsAnalysisOf (graph_view graph.now) plan.now options) }
     {
+        layouts_law();
         plan.axioms();
         let parts = parts(alloc, plan)?;
         analysed(alloc, graph, frame, parts, options)
     }
 
     /// The equations of a graph's points alone: no element is a head or an exit, so a run of a point gives what its
-    /// equation gives.
+    /// equation gives. There is one octagon.
     pub fn of_points(
         alloc: Global,
         graph: &'g Graph,
@@ -111,8 +119,9 @@ impl<'g> Analysis<'g> {
     ) -> Result<Analysis<'g>, AllocError>
         requires frame { frame.now ≡ layout_of (graph_view graph.now) oct }
         ensures { IfOk result (IsFlowOf (graph_view graph.now) (replicate (length (graph_view graph.now).points) Point)
-            (record { delay = 0; narrow = 0; oct = oct })) }
+            (layout_of (graph_view graph.now) oct) (record { delay = 0; narrow = 0; oct = oct; packs = false })) }
     {
+        graphs_law();
         graph.well_made();
         let parts = vec![in alloc; Part::Point; graph.points()]?;
         analysed(
@@ -124,6 +133,7 @@ impl<'g> Analysis<'g> {
                 delay: 0,
                 narrow: 0,
                 oct,
+                packs: false,
             },
         )
     }

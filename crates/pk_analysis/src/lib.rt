@@ -5,6 +5,8 @@ mod analysis;
 mod arrows;
 mod digraphs;
 mod flow;
+mod frames;
+mod laws;
 mod parts;
 mod reads;
 mod starts;
@@ -12,4 +14,6 @@ mod states;
 
 pub use analysis::{Analysis, Options};
 pub use digraphs::digraph;
+pub use frames::frame_for;
+pub use laws::layouts_law;
 pub use states::States;

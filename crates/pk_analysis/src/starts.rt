@@ -1,14 +1,14 @@
 // The start state.
 
-ghost use Rattle.std.specs.Prelude.{◌≡◌, ◌++◌, ℕ, pos, if◌then◌else◌, IfOk, OnOk, Some, All, map, slice_index_or};
+ghost use Rattle.std.specs.Prelude.{◌≡◌, ◌++◌, pos, if◌then◌else◌, IfOk, OnOk, Some, All, map, slice_index_or};
 ghost use Rattle.pk_ctypes.specs.Types.{InType};
 ghost use Rattle.pk_graph.specs.Kinds.{count_of};
 ghost use Rattle.pk_graph.specs.Graphs.{variable_view};
 ghost use Rattle.pk_graph.specs.WellMade.{IsStartOf};
 ghost use Rattle.pk_graph.specs.Shown.{graph_view};
-ghost use Rattle.pk_state.specs.Changes.{IsValue};
+ghost use Rattle.pk_octagons.specs.Values.{IsValue};
 ghost use Rattle.pk_transfer.specs.Slots.{further_types, slot_types};
-ghost use Rattle.pk_transfer.specs.Graphs.{kinds_shown, layout_of};
+ghost use Rattle.pk_transfer.specs.Graphs.{kinds_shown, layout_over};
 ghost use Rattle.pk_value.specs.Known.{any_of, exactly, joined as joined_of};
 ghost use Rattle.pk_analysis.specs.Starts.{known_of_numbers, joined_with, start_known, known_of_number, own_known, further_known, start_values, AreTyped, start_facts};
 ghost use Rattle.pk_analysis.specs.Flows.{stated};
@@ -198,7 +198,7 @@ fn values(alloc: Global, variables: &[Variable]) -> Result<Vec<Value>, AllocErro
 
 /// What is known when a run begins.
 pub fn start<'g>(alloc: Global, graph: &Graph, frame: &'g Frame) -> Result<State<'g>, AllocError>
-    requires { (oct : ℕ) × (frame.now ≡ layout_of (graph_view graph.now) oct) }
+    requires { frame.now ≡ layout_over (graph_view graph.now) frame.now.packs }
     ensures { IfOk result
         (λ s. s ≡ stated frame.now (Some (start_facts (graph_view graph.now) frame.now))) }
 {

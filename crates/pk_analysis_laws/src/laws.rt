@@ -21,7 +21,7 @@ pub fn widening_chains_end()
     ensures { WideningChainsEnd }
 {}
 
-/// No list of widening steps of states over a graph is longer than its bound on chains.
+/// No list of widening steps of states over a graph is longer than the bound on chains with an octagon over each pack.
 pub fn graph_chains_end()
     ensures { GraphChainsEnd }
 {}

@@ -11,7 +11,7 @@ ghost use Rattle.pk_analysis.specs.Flows.{equations_of, IsOverFlow};
 use crate::agreeing::{agree, iterated};
 use crate::drives::{driven, reads_within};
 use Event::{Again, Claim, Finish, Offer, Send, Stable};
-use pk_analysis::{Analysis, Options, digraph};
+use pk_analysis::{Analysis, Options, digraph, frame_for};
 use pk_core::{Event, PlayError, play};
 use pk_graph::Graph;
 use pk_iterate::Cells;
@@ -20,7 +20,6 @@ use pk_phases::{Cell, Phase};
 use pk_plan::{Order, Plan};
 use pk_state::State;
 use pk_text_graph::graph_of_text;
-use pk_transfer::frame;
 use std::alloc::Global;
 use std::process::Abort;
 use std::test::Fail;
@@ -221,8 +220,11 @@ fn graph_as_iterated(
         delay: 0,
         narrow: 2,
         oct: 16,
+        packs: false,
     };
-    let frame = frame(alloc, graph, options.oct)?;
+    let frame = frame_for(alloc, graph, plan, options)
+        .ok()
+        .ok_or("no frame")?;
     let analysis = Analysis::new(alloc, graph, &frame, plan, options)?;
     analysis_as_iterated(rt, alloc, &analysis, plan, order, list, runs)
 }
@@ -311,8 +313,11 @@ fn a_narrowed_value_fails_its_test(rt: HostRuntime) -> Result<(), Fail> {
         delay: 0,
         narrow: 2,
         oct: 16,
+        packs: false,
     };
-    let frame = frame(alloc, &graph, options.oct)?;
+    let frame = frame_for(alloc, &graph, &plan, options)
+        .ok()
+        .ok_or("no frame")?;
     let analysis = Analysis::new(alloc, &graph, &frame, &plan, options)?;
     let phases = seen_phases(&rt, alloc, &analysis, &plan)?;
     assert!(rt; phases.as_str() == "Up Up Down 1 Last ");

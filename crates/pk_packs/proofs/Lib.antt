@@ -3,4 +3,5 @@ mod FirstLemmas
 mod EdgeLemmas
 mod ComponentLemmas
 mod EndLemmas
-mod PackLemmas
+mod BoundLemmas
+pub mod PackLemmas

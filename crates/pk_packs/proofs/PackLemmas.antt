@@ -150,7 +150,7 @@ wanted_over g f x h =
     (asked_at f g.points x u h.point ∙ on) in
     and_from (is_asked_in x (over g f)) (is_named_scalar (variable_at g x)) asked h.scalar
 
-variables_are_first : (g : GraphOf) (f : ℕ → EdgeOf → Bool) (n : ℕ) → AreFirst (IsAskedOver g f) n (variables_over g f n)
+pub variables_are_first : (g : GraphOf) (f : ℕ → EdgeOf → Bool) (n : ℕ) → AreFirst (IsAskedOver g f) n (variables_over g f n)
 variables_are_first g f n = record {
   rising = rising_at (over g f) n 0 g.variables;
   few = few_asked (over g f) n 0 g.variables;

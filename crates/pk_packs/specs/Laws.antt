@@ -8,6 +8,8 @@ use Rattle.pk_plan.specs.Plans.{PlanView, Inside}
 use Rattle.pk_plan.specs.Axioms.{Axioms}
 use Rattle.pk_packs.specs.Belongs.{lies_in, belongs}
 use Rattle.pk_packs.specs.Packs.{packs_of, pack_count}
+use Rattle.pk_packs.specs.Chains.{IsChainBound}
+use Rattle.pk_thresh.specs.Chains as chains
 
 -- a named scalar that occurs in a guard, an assertion or an index of an edge that f takes
 pub record IsAskedOver (g : GraphOf) (f : (from : ℕ) → EdgeOf → Bool) (x : ℕ) : Type 0 where
@@ -56,3 +58,8 @@ InnerEdgesAreOuter =
 abbrev pub OnePackWithoutComponents : Type 0
 OnePackWithoutComponents =
     (g : GraphOf) (p : PlanView) (n : ℕ) → p.components ≡ [] → packs_of g p n ≡ octagon_variables_of g n ∷ []
+
+-- With one pack, of the variables of the one octagon, the bound on chains is that with one octagon.
+abbrev pub OneOctagonBounds : Type 0
+OneOctagonBounds =
+    (g : GraphOf) (n bound : ℕ) → IsChainBound g (octagon_variables_of g n ∷ []) bound ↔ chains.IsChainBound g n bound

@@ -1,5 +1,5 @@
 pub mod Belongs
 pub mod Packs
 pub mod Ends
-pub mod Laws
 pub mod Chains
+pub mod Laws

@@ -24,12 +24,13 @@ fn with_octagons(values: u64, packs: &Packs) -> Option<u64>
 {
     let mut bound = values;
     for number in 0..packs.count() {
-        bound = bound.checked_add(entries(packs.variables(number).len())?)?;
+        bound = bound.checked_add(entries(packs.pack(number).len())?)?;
     }
     Some(bound)
 }
 
-/// How long a chain of widening steps over the graph can be (tests alone call it), with an octagon over each pack. A bound of 2^64 or more is answered by want of memory.
+/// How long a chain of widening steps over the graph can be, with an octagon over each pack (tests alone call it): this bounds the
+/// recursion of an analysis with packs. A bound of 2^64 or more is answered by want of memory.
 pub fn chain_bound_packs(alloc: Global, graph: &Graph, packs: &Packs) -> Result<u64, AllocError>
     ensures { IfOk result (λ n. IsChainBound (graph_view graph.now) packs.now n) }
 {

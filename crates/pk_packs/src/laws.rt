@@ -1,6 +1,6 @@
 // Laws of packs.
 
-ghost use Rattle.pk_packs.specs.Laws.{PacksAreOfTheirEdges, EdgesHavePacks, EdgesLieBetweenMembers, InnerEdgesAreOuter, OnePackWithoutComponents};
+ghost use Rattle.pk_packs.specs.Laws.{PacksAreOfTheirEdges, EdgesHavePacks, EdgesLieBetweenMembers, InnerEdgesAreOuter, OnePackWithoutComponents, OneOctagonBounds};
 
 /// A pack's variables are the first named scalars for which its edges ask.
 pub fn packs_are_of_their_edges()
@@ -25,4 +25,9 @@ pub fn inner_edges_are_outer()
 /// Without components there is one pack, of the variables of the one octagon.
 pub fn one_pack_without_components()
     ensures { OnePackWithoutComponents }
+{}
+
+/// With one pack, of the variables of the one octagon, the bound on chains is that with one octagon.
+pub fn one_octagon_bounds()
+    ensures { OneOctagonBounds }
 {}

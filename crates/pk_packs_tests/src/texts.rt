@@ -22,12 +22,14 @@ fn line_of(rt: &impl Abort, alloc: Global, graph: &Graph, packs: &Packs) -> Resu
         if pack > 0 {
             line.push_str(" | ")?;
         }
-        for (place, number) in packs.variables(pack).iter().enumerate() {
+        let held = packs.pack(pack);
+        for place in 0..held.len() {
             if place > 0 {
                 line.push_str(" ")?;
             }
-            assert!(rt; *number < variables.len());
-            write_name(&mut line, &variables[*number])?;
+            let number = held.variable(place);
+            assert!(rt; number < variables.len());
+            write_name(&mut line, &variables[number])?;
         }
     }
     Ok(line)

@@ -20,17 +20,19 @@ use Rattle.pk_graph.specs.Kinds.{Kind, no_kind, kind_at, count_of, count_at}
 use Rattle.pk_graph.specs.Graphs.{VariableOf, StartOf, any_start, number_start, GraphOf, no_variable, variable_at, kinds_of}
 use Rattle.pk_graph.specs.WellMade.{IsGraph, IsStartOf}
 use Rattle.pk_graph.specs.Steps.{Numbers, number_at, all_in_type}
-use Rattle.pk_graph.specs.Stores.{Stored, numbers_of, IsStore}
+use Rattle.pk_graph.specs.Stores.{Stored, numbers_of, number_of, IsStore}
 use Rattle.pk_value.specs.Known.{Known, any_of, exactly, joined, IsOf}
 use Rattle.pk_value.proofs.Orders.{lattice}
 use Rattle.pk_octmat.specs.Octagon.{octagon_of, top_bound}
 use Rattle.pk_octmat.proofs.Points.{top_holds}
 use Rattle.pk_octmat.proofs.Tabled.{octagon_entries}
 use Rattle.pk_octops.proofs.Sound.{meets_from}
-use Rattle.pk_state.specs.Layouts.{Layout, IsLayout, chosen_at, slot_of}
-use Rattle.pk_state.specs.Facts.{AreFacts, known_at}
-use Rattle.pk_state.specs.Members.{selected, Member}
-use Rattle.pk_state.specs.Changes.{IsValue}
+use Rattle.pk_octagons.specs.Values.{known_at, IsValue}
+use Rattle.pk_octagons.specs.Octagons.{top_octagons}
+use Rattle.pk_octagons.specs.Members.{selected, MeetAll}
+use Rattle.pk_state.specs.Layouts.{Layout, IsLayout, slot_of}
+use Rattle.pk_state.specs.Facts.{AreFacts}
+use Rattle.pk_state.specs.Members.{Member}
 use Rattle.pk_state.proofs.Held.{values_from}
 use Rattle.pk_state.proofs.Tops.{top_stays, any_value}
 use Rattle.pk_transfer.specs.Slots.{is_small, further_count, further_types, slot_types, spread}
@@ -204,6 +206,11 @@ further_all (x ∷ xs) h =
     typed_append (further_known x) (flat_map further_known xs) (further_types x.kind) (flat_map further_types (map (λ (x : VariableOf). x.kind) xs))
     (further_typed x 0 (further_count x.kind.length) (All-head (λ (x : VariableOf). IsStartOf x x.start) x xs h)) (further_all xs (All-tail (λ (x : VariableOf). IsStartOf x x.start) x xs h))
 
+-- any numbers meet octagons without bounds
+tops_meet : (packs : List (List ℕ)) (x : ℕ → ℤ) → MeetAll packs (top_octagons packs) x
+tops_meet [] x = tt
+tops_meet (c ∷ packs) x = (meets_from (length c) top_bound (octagon_of (length c) top_bound) (selected c x) (octagon_entries (length c) top_bound) (λ i j id jd. top_holds (selected c x) i j), tops_meet packs x)
+
 -- ---- all of them
 
 module _ (g : GraphOf) (l : Layout) (made : IsGraph g) (lay : IsLayout l) (over : IsOver (kinds_of g) l) where
@@ -232,10 +239,9 @@ module _ (g : GraphOf) (l : Layout) (made : IsGraph g) (lay : IsLayout l) (over 
 
   pub start_stays : AreFacts l (start_facts g l)
   start_stays = record {
-    values = values_from l (start_values g.variables) all_many
+    values = values_from l.types (start_values g.variables) all_many
         (λ x p. subst (λ (ts : List IntType). IsValue (slice_index_or ts x Int) (known_at (start_values g.variables) x)) (sym over.types) (typed_at (start_values g.variables) (slot_types (kinds_of g)) x (any_of Int) Int typed p));
-    vars = refl;
-    octagon = (top_stays l lay).octagon;
+    octagons = (top_stays l lay).octagons;
   }
 
   module _ (s : Stored) (begins : Begins g s) where
@@ -328,6 +334,6 @@ module _ (g : GraphOf) (l : Layout) (made : IsGraph g) (lay : IsLayout l) (over 
     pub start_member : Member l (Some (start_facts g l)) (spread (pad s))
     start_member = record {
       values = record { each = λ x i p q. (holds x p).1 i q; some = λ x p. (holds x p).0 };
-      scalars = λ k p. scalar_counts (kinds_up (kinds_of g)) l (pad s) wide counted (chosen_at l k) (wide.scalars k p);
-      octagon = meets_from (length l.chosen) top_bound (octagon_of (length l.chosen) top_bound) (selected l.chosen (spread (pad s))) (octagon_entries (length l.chosen) top_bound) (λ i j id jd. top_holds (selected l.chosen (spread (pad s))) i j);
+      scalars = λ x i. scalar_counts (kinds_up (kinds_of g)) l (pad s) wide counted x (wide.scalars x i);
+      octagons = tops_meet l.packs (number_of (spread (pad s)));
     }

@@ -10,7 +10,6 @@ use Rattle.pk_ctypes.specs.declared.types.IntType.TheVariants.{Char, SChar, UCha
 use Rattle.pk_ctypes.specs.declared.types.Op.{Op}
 use Rattle.pk_ctypes.specs.declared.types.Op.TheVariants.{Add, Sub, Mul, Div, Rem, Shl, Shr, And, Or, Xor, Lt, Gt, Le, Ge, Eq, Ne, Neg, BitNot, Not}
 use Rattle.pk_ctypes.specs.Types.{low_of, high_of, width_of, is_signed_of, InType}
-use Rattle.pk_ctypes.specs.Operators.{exact}
 use Rattle.pk_interval.specs.declared.outcome.Outcome.{Outcome}
 use Rattle.pk_interval.specs.declared.outcome.Outcome.TheVariants.{Empty, Within, TooLarge}
 use Rattle.pk_interval.specs.Ranges.{Range}
@@ -29,7 +28,8 @@ use Rattle.pk_state.specs.Layouts.{Layout, IsLayout}
 use Rattle.pk_state.specs.Facts.{Facts, AreFactsIf}
 use Rattle.pk_state.specs.Members.{Member}
 use Rattle.pk_state.specs.Reduced.{reduced}
-use Rattle.pk_state.specs.Changes.{known_in, IsValue}
+use Rattle.pk_octagons.specs.Values.{IsValue}
+use Rattle.pk_state.specs.Changes.{known_in}
 use Rattle.pk_state.proofs.Held.{facts_stay}
 use Rattle.pk_state.proofs.Sound.{states_sound}
 use Rattle.pk_transfer.specs.Slots.{spread}

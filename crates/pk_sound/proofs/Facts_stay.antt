@@ -1,5 +1,5 @@
 -- Of a layout's facts an instruction makes facts of the layout.
-use Rattle.std.specs.Prelude.{◌≡◌, ℕ, zero, suc, ◌-◌, ◌<◌, ◌*◌, ◌/◌, ◌^◌, Bool, true, false, if◌then◌else◌, ℤ, pos, ◌+ℤ◌, ◌-ℤ◌, ◌≤ℤ◌, int_le, unsigned_abs, List, [], ◌∷◌, length, Option, Some, None, IfSome}
+use Rattle.std.specs.Prelude.{◌≡◌, ℕ, zero, suc, ◌-◌, ◌<◌, ◌*◌, ◌/◌, ◌^◌, Bool, true, false, if◌then◌else◌, ℤ, pos, ◌+ℤ◌, ◌-ℤ◌, ◌≤ℤ◌, int_le, unsigned_abs, List, [], ◌∷◌, ◌++◌, length, Option, Some, None, IfSome}
 use Rattle.std.specs.Ordering.{int_eq}
 use Rattle.std.specs.Int.{int_min, int_max}
 use Rattle.std.proofs.Common.{arith, refl, ap, sym, subst, inr, ◌∙◌}
@@ -22,23 +22,24 @@ use Rattle.pk_graph.specs.Trees.{TreeOf, constant, variable, converted, unary, b
 use Rattle.pk_graph.specs.Kinds.{Kinds, count_of, count_at, type_of, IsArray, IsTyped, IsTypedInstr}
 use Rattle.pk_graph.specs.Kinds as kinds
 use Rattle.pk_value.specs.Known.{Known, any_of, exactly, joined}
-use Rattle.pk_state.specs.Layouts.{Layout, type_at, place_in, is_spread, slot_of}
+use Rattle.pk_octagons.specs.Values.{type_at, IsValue}
+use Rattle.pk_octagons.specs.Reduced.{with_range}
+use Rattle.pk_state.specs.Layouts.{Layout, is_spread, slot_of}
 use Rattle.pk_state.specs.Facts.{Facts, AreFactsIf}
-use Rattle.pk_state.specs.Reduced.{reduced, with_range}
-use Rattle.pk_state.specs.Changes.{known_in, with_known, IsValue}
+use Rattle.pk_state.specs.Reduced.{reduced}
+use Rattle.pk_state.specs.Changes.{known_in, with_known}
 use Rattle.pk_state.proofs.Changed.{changes_stay}
 use Rattle.pk_state.proofs.Held.{facts_stay}
-use Rattle.pk_octops.specs.Laws.{IsTerm}
 use Rattle.pk_transfer.specs.Trees.{tree_known, known_with, kinds_of, IsOver}
-use Rattle.pk_transfer.specs.Linear.{Linear, linear, difference, HasPlaces, ArePlaces, IsGuardOn}
+use Rattle.pk_transfer.specs.Linear.{Linear, variables_of, linear, difference, IsGuardOn}
 use Rattle.pk_transfer.specs.Guards.{flipped, condition_of, Condition, with_both, at_most, at_least, other_than, refined}
-use Rattle.pk_transfer.specs.Assignments.{term_of, with_form, with_form_at, with_known_if, set_in}
+use Rattle.pk_transfer.specs.Assignments.{term_of, with_form, with_known_if, set_in}
 use Rattle.pk_transfer.specs.Assumptions.{places_in, le_in, compared_in, with_operand, if_some, refined_in, holds_in, guard_in}
 use Rattle.pk_transfer.specs.Transfers.{misses, at_index, may_be, may_be_below, either, known_below, stored_at, stored_below, known_each, forgotten_in, loaded, stored, applied}
 use Rattle.pk_transfer.proofs.Slotting.{own_there, own_type, slot_there, slot_type}
 use Rattle.pk_transfer.proofs.Told.{in_wider}
 use Rattle.pk_transfer.proofs.Over.{tree_over, fits_over}
-use Rattle.pk_transfer.proofs.Apart.{place_below, tree_places, differences_guards}
+use Rattle.pk_transfer.proofs.Apart.{differences_guards}
 use Rattle.pk_transfer.proofs.Refining.{part_in, met_in}
 use Rattle.pk_transfer.proofs.Passing.{condition_typed}
 use Rattle.pk_value.specs.Values.{is_constant}
@@ -153,43 +154,30 @@ refined_value Not t u x v h k = h
 
 -- ---- writing
 
-written_stays : (y : Layout) (f : Option Facts) (x : ℕ) (o : Option Known) → AreFactsIf y f → x < length y.types → IfSome o (IsValue (type_at y x)) → AreFactsIf y (with_known_if f x o)
+written_stays : (y : Layout) (f : Option Facts) (x : ℕ) (o : Option Known) → AreFactsIf y f → x < length y.types → IfSome o (IsValue (type_at y.types x)) → AreFactsIf y (with_known_if f x o)
 written_stays y f x None a h i = tt
 written_stays y f x (Some k) a h i = changes_stay.written y f x k a h i
 
-term_in : (n : ℕ) (ps : List ℕ) → ArePlaces n ps → IsTerm n (term_of ps)
-term_in n [] h = tt
-term_in n (p ∷ []) h = h.0
-term_in n (p ∷ (q ∷ ps)) h = tt
-
-form_stays : (y : Layout) (f : Option Facts) (k : ℕ) (o : Option Linear) → AreFactsIf y f → k < length y.chosen → HasPlaces (length y.chosen) o → AreFactsIf y (with_form f k o)
-form_stays y f k None a h p = changes_stay.assigned y f k None (pos 0) a h tt
-form_stays y f k (Some l) a h p = changes_stay.assigned y f k (term_of l.places) l.constant a h (term_in (length y.chosen) l.places p)
-
-form_at_stays : (y : Layout) (f : Option Facts) (x : ℕ) (o : Option Linear) → AreFactsIf y f → HasPlaces (length y.chosen) o → AreFactsIf y (with_form_at f (place_in y.chosen x) o)
-form_at_stays y f x o a p = by (place_in y.chosen x) refl
-  where
-    by : (q : Option ℕ) → place_in y.chosen x ≡ q → AreFactsIf y (with_form_at f q o)
-    by None e = a
-    by (Some k) e = form_stays y f k o a (place_below y.chosen x k e) p
+form_stays : (y : Layout) (f : Option Facts) (x : ℕ) (o : Option Linear) (over : List ℕ) → AreFactsIf y f → AreFactsIf y (with_form y f x o over)
+form_stays y f x None over a = changes_stay.assigned y f x None (pos 0) [] a
+form_stays y f x (Some l) over a = changes_stay.assigned y f x (term_of l.places) l.constant over a
 
 -- a value of a narrower type
 wider_value : (t u : IntType) (o : Option Known) → Represents t u → IfSome o (IsValue u) → IfSome o (IsValue t)
 wider_value t u None w h = tt
 wider_value t u (Some k) w h = record { inside = in_wider t u k.range w h.inside; some = h.some; class = h.class }
 
-set_stays : (y : Layout) (f : Option Facts) (x : ℕ) (e : TreeOf ℕ) → AreFactsIf y f → x < length y.types → IsTyped (kinds_of y) e → Represents (type_at y x) (type_of (kinds_of y) e) → AreFactsIf y (set_in y f x e)
+set_stays : (y : Layout) (f : Option Facts) (x : ℕ) (e : TreeOf ℕ) → AreFactsIf y f → x < length y.types → IsTyped (kinds_of y) e → Represents (type_at y.types x) (type_of (kinds_of y) e) → AreFactsIf y (set_in y f x e)
 set_stays y f x e a h t w =
-    written_stays y (with_form_at f (place_in y.chosen x) (linear y.chosen (known_in f) e)) x (tree_known (known_in f) e)
-    (form_at_stays y f x (linear y.chosen (known_in f) e) a (tree_places y.chosen (known_in f) e)) h
-    (wider_value (type_at y x) (type_of (kinds_of y) e) (tree_known (known_in f) e) w (tree_stays y f e a t))
+    written_stays y (with_form y f x (linear y.packs (known_in f) e) (variables_of e)) x (tree_known (known_in f) e) (form_stays y f x (linear y.packs (known_in f) e) (variables_of e) a) h
+    (wider_value (type_at y.types x) (type_of (kinds_of y) e) (tree_known (known_in f) e) w (tree_stays y f e a t))
 
 chosen_stays : (y : Layout) (b : Bool) (f g : Option Facts) → AreFactsIf y f → AreFactsIf y g → AreFactsIf y (if b then f else g)
 chosen_stays y true f g a h = a
 chosen_stays y false f g a h = h
 
-forgotten_stays : (y : Layout) (f : Option Facts) (x : ℕ) (o : Option Known) → AreFactsIf y f → x < length y.types → IfSome o (IsValue (type_at y x)) → AreFactsIf y (forgotten_in y f x o)
-forgotten_stays y f x o a h i = written_stays y (with_form_at f (place_in y.chosen x) None) x o (form_at_stays y f x None a tt) h i
+forgotten_stays : (y : Layout) (f : Option Facts) (x : ℕ) (o : Option Known) → AreFactsIf y f → x < length y.types → IfSome o (IsValue (type_at y.types x)) → AreFactsIf y (forgotten_in y f x o)
+forgotten_stays y f x o a h i = written_stays y (with_form y f x None []) x o (form_stays y f x None [] a) h i
 
 index_stays : (y : Layout) (n : ℕ) (o : Option Known) (f : Known → Option Facts) → ((k : Known) → AreFactsIf y (f k)) → AreFactsIf y (at_index n o f)
 index_stays y n None f a = tt
@@ -239,15 +227,15 @@ loaded_value ks y f r k over a h = by (is_spread y r.variable)
     by true = below_value ks y f r.variable k r.length over a h.there (λ i p. omega (arith, p, count))
     by false = subst (λ (t : IntType). IfSome (known_in f r.variable) (IsValue t)) (own_type ks y over r.variable h.there) (variable_value y f r.variable a (own_there ks y over r.variable h.there))
 
-stored_stays : (y : Layout) (f : Option Facts) (j : ℕ) (surely : Bool) (v : Known) → AreFactsIf y f → j < length y.types → IsValue (type_at y j) v → AreFactsIf y (stored_at f j surely v)
+stored_stays : (y : Layout) (f : Option Facts) (j : ℕ) (surely : Bool) (v : Known) → AreFactsIf y f → j < length y.types → IsValue (type_at y.types j) v → AreFactsIf y (stored_at f j surely v)
 stored_stays y f j surely v a h w =
     written_stays y f j (known_with (known_in f j) (λ k. Some (if surely then v else joined k v))) a h (one (known_in f j) (variable_value y f j a h))
   where
-    some_of : (b : Bool) (k : Known) → IsValue (type_at y j) k → IsValue (type_at y j) (if b then v else joined k v)
+    some_of : (b : Bool) (k : Known) → IsValue (type_at y.types j) k → IsValue (type_at y.types j) (if b then v else joined k v)
     some_of true k i = w
-    some_of false k i = joined_value (type_at y j) k v i w
+    some_of false k i = joined_value (type_at y.types j) k v i w
 
-    one : (o : Option Known) → IfSome o (IsValue (type_at y j)) → IfSome (known_with o (λ k. Some (if surely then v else joined k v))) (IsValue (type_at y j))
+    one : (o : Option Known) → IfSome o (IsValue (type_at y.types j)) → IfSome (known_with o (λ k. Some (if surely then v else joined k v))) (IsValue (type_at y.types j))
     one None i = tt
     one (Some k) i = some_of surely k i
 
@@ -271,40 +259,40 @@ array_stays ks y f r k (Some v) over a h w =
 
 -- ---- guards
 
-places_stay : (y : Layout) (f : Option Facts) (ps : List ℕ) (c : ℤ) → AreFactsIf y f → IsGuardOn (length y.chosen) ps → AreFactsIf y (places_in f ps c)
-places_stay y f [] c a g = changes_stay.guarded y f None None c a g
-places_stay y f (p ∷ []) c a g = changes_stay.guarded y f (Some p) None c a g
-places_stay y f (p ∷ (q ∷ [])) c a g = changes_stay.guarded y f (Some p) (Some q) c a g
-places_stay y f (p ∷ (q ∷ (r ∷ ps))) c a g = a
+places_stay : (y : Layout) (f : Option Facts) (ps : List ℕ) (c : ℤ) (over : List ℕ) → AreFactsIf y f → IsGuardOn ps → AreFactsIf y (places_in y f ps c over)
+places_stay y f [] c over a g = changes_stay.guarded y f None None c over a g
+places_stay y f (p ∷ []) c over a g = changes_stay.guarded y f (Some p) None c over a g
+places_stay y f (p ∷ (q ∷ [])) c over a g = changes_stay.guarded y f (Some p) (Some q) c over a g
+places_stay y f (p ∷ (q ∷ (r ∷ ps))) c over a g = a
 
-abbrev AreGuards : Layout → Option Linear → Option Linear → Type 0
-AreGuards y o p = (l r : Linear) → o ≡ Some l → p ≡ Some r → IsGuardOn (length y.chosen) (difference l r).places
+abbrev AreGuards : Option Linear → Option Linear → Type 0
+AreGuards o p = (l r : Linear) → o ≡ Some l → p ≡ Some r → IsGuardOn (difference l r).places
 
-le_stays : (y : Layout) (f : Option Facts) (o p : Option Linear) (n : ℤ) → AreFactsIf y f → AreGuards y o p → AreFactsIf y (le_in f o p n)
-le_stays y f None p n a g = a
-le_stays y f (Some l) None n a g = a
-le_stays y f (Some l) (Some r) n a g = places_stay y f (difference l r).places ((r.constant -ℤ n) -ℤ l.constant) a (g l r refl refl)
+le_stays : (y : Layout) (f : Option Facts) (o p : Option Linear) (n : ℤ) (over : List ℕ) → AreFactsIf y f → AreGuards o p → AreFactsIf y (le_in y f o p n over)
+le_stays y f None p n over a g = a
+le_stays y f (Some l) None n over a g = a
+le_stays y f (Some l) (Some r) n over a g = places_stay y f (difference l r).places ((r.constant -ℤ n) -ℤ l.constant) over a (g l r refl refl)
 
-compared_stays : (op : Op) (y : Layout) (f : Option Facts) (o p : Option Linear) → AreFactsIf y f → AreGuards y o p → AreGuards y p o → AreFactsIf y (compared_in op f o p)
-compared_stays Add y f o p a g h = a
-compared_stays Sub y f o p a g h = a
-compared_stays Mul y f o p a g h = a
-compared_stays Div y f o p a g h = a
-compared_stays Rem y f o p a g h = a
-compared_stays Shl y f o p a g h = a
-compared_stays Shr y f o p a g h = a
-compared_stays And y f o p a g h = a
-compared_stays Or y f o p a g h = a
-compared_stays Xor y f o p a g h = a
-compared_stays Lt y f o p a g h = le_stays y f o p (pos 1) a g
-compared_stays Gt y f o p a g h = le_stays y f p o (pos 1) a h
-compared_stays Le y f o p a g h = le_stays y f o p (pos 0) a g
-compared_stays Ge y f o p a g h = le_stays y f p o (pos 0) a h
-compared_stays Eq y f o p a g h = le_stays y (le_in f o p (pos 0)) p o (pos 0) (le_stays y f o p (pos 0) a g) h
-compared_stays Ne y f o p a g h = a
-compared_stays Neg y f o p a g h = a
-compared_stays BitNot y f o p a g h = a
-compared_stays Not y f o p a g h = a
+compared_stays : (op : Op) (y : Layout) (f : Option Facts) (o p : Option Linear) (over : List ℕ) → AreFactsIf y f → AreGuards o p → AreGuards p o → AreFactsIf y (compared_in op y f o p over)
+compared_stays Add y f o p over a g h = a
+compared_stays Sub y f o p over a g h = a
+compared_stays Mul y f o p over a g h = a
+compared_stays Div y f o p over a g h = a
+compared_stays Rem y f o p over a g h = a
+compared_stays Shl y f o p over a g h = a
+compared_stays Shr y f o p over a g h = a
+compared_stays And y f o p over a g h = a
+compared_stays Or y f o p over a g h = a
+compared_stays Xor y f o p over a g h = a
+compared_stays Lt y f o p over a g h = le_stays y f o p (pos 1) over a g
+compared_stays Gt y f o p over a g h = le_stays y f p o (pos 1) over a h
+compared_stays Le y f o p over a g h = le_stays y f o p (pos 0) over a g
+compared_stays Ge y f o p over a g h = le_stays y f p o (pos 0) over a h
+compared_stays Eq y f o p over a g h = le_stays y (le_in y f o p (pos 0) over) p o (pos 0) over (le_stays y f o p (pos 0) over a g) h
+compared_stays Ne y f o p over a g h = a
+compared_stays Neg y f o p over a g h = a
+compared_stays BitNot y f o p over a g h = a
+compared_stays Not y f o p over a g h = a
 
 with_stays : (t : IntType) (o : Option Known) (f : Known → Option Known) → IfSome o (IsValue t) → ((k : Known) → IsValue t k → IfSome (f k) (IsValue t)) → IfSome (known_with o f) (IsValue t)
 with_stays t None f h g = tt
@@ -318,7 +306,7 @@ operand_stays ks y f (constant t n) op u v o a h i = a
 operand_stays ks y f (variable x) op u v o a h i =
     let here = there_in ks y x o h.there in
     written_stays y f x (known_with (known_in f x) (λ k. refined op k v)) a here
-    (with_stays (type_at y x) (known_in f x) (λ k. refined op k v) (variable_value y f x a here) (λ k j. refined_value op (type_at y x) u k v j i))
+    (with_stays (type_at y.types x) (known_in f x) (λ k. refined op k v) (variable_value y f x a here) (λ k j. refined_value op (type_at y.types x) u k v j i))
 operand_stays ks y f (converted t e) op u v o a h i = a
 operand_stays ks y f (unary q s t e) op u v o a h i = a
 operand_stays ks y f (binary q s t d e) op u v o a h i = a
@@ -336,9 +324,10 @@ refined_stays ks y f c (Some m) (Some n) t u over a h i j k =
 
 holds_stay : (ks : Kinds) (y : Layout) (f : Option Facts) (c : Condition) → IsOver ks y → AreFactsIf y f → IsTyped ks c.left → IsTyped ks c.right → AreFactsIf y (holds_in y f c)
 holds_stay ks y f c over a h i =
-    refined_stays ks y (compared_in c.op f (linear y.chosen (known_in f) c.left) (linear y.chosen (known_in f) c.right)) c (tree_known (known_in f) c.left) (tree_known (known_in f) c.right)
+    let read = variables_of c.left ++ variables_of c.right in
+    refined_stays ks y (compared_in c.op y f (linear y.packs (known_in f) c.left) (linear y.packs (known_in f) c.right) read) c (tree_known (known_in f) c.left) (tree_known (known_in f) c.right)
     (type_of (kinds_of y) c.left) (type_of (kinds_of y) c.right) over
-    (compared_stays c.op y f (linear y.chosen (known_in f) c.left) (linear y.chosen (known_in f) c.right) a (differences_guards y.chosen (known_in f) c.left c.right) (differences_guards y.chosen (known_in f) c.right c.left))
+    (compared_stays c.op y f (linear y.packs (known_in f) c.left) (linear y.packs (known_in f) c.right) read a (differences_guards y.packs (known_in f) c.left c.right) (differences_guards y.packs (known_in f) c.right c.left))
     h i (tree_stays y f c.left a (tree_over ks y c.left over h)) (tree_stays y f c.right a (tree_over ks y c.right over i))
 
 pub guard_stays : (ks : Kinds) (y : Layout) (f : Option Facts) (e : TreeOf ℕ) (b : Bool) → IsOver ks y → AreFactsIf y f → IsTyped ks e → AreFactsIf y (guard_in y f e b)
@@ -362,13 +351,13 @@ applied_by ks y f (Clear r) over a h =
     (each_stays ks y f r.variable (exactly (pos 0)) (r.length - 1) over a h.there value (λ i p. subst (λ (m : ℕ). suc i < m) (sym count) (less_one r.length i p)))
     (changes_stay.written y f r.variable (exactly (pos 0)) a (there_in ks y r.variable over h.there) (subst (λ (u : IntType). IsValue u (exactly (pos 0))) (sym (own_type ks y over r.variable h.there)) value))
 applied_by ks y f (Load x r s b i) over a h =
-    let same : kinds.type_at ks r.variable ≡ type_at y x = sym h.2 ∙ sym (own_type ks y over x h.0.there) in
+    let same : kinds.type_at ks r.variable ≡ type_at y.types x = sym h.2 ∙ sym (own_type ks y over x h.0.there) in
     index_stays y r.length (tree_known (known_in f) i) (λ k. forgotten_in y f x (loaded y f r k))
     (λ k. forgotten_stays y f x (loaded y f r k) a (there_in ks y x over h.0.there) (subst (λ (t : IntType). IfSome (loaded y f r k) (IsValue t)) same (loaded_value ks y f r k over a h.1)))
 applied_by ks y f (Store r s b i e) over a h =
     let same = own_type ks y over r.variable h.0.there in
     let given = subst (λ (t : IntType). IfSome (tree_known (known_in f) e) (IsValue t)) same
-    (wider_value (type_at y r.variable) (type_of (kinds_of y) e) (tree_known (known_in f) e) (fits_over ks y r.variable e over h.0.there h.2) (tree_stays y f e a (tree_over ks y e over h.2.typed))) in
+    (wider_value (type_at y.types r.variable) (type_of (kinds_of y) e) (tree_known (known_in f) e) (fits_over ks y r.variable e over h.0.there h.2) (tree_stays y f e a (tree_over ks y e over h.2.typed))) in
     index_stays y r.length (tree_known (known_in f) i) (λ k. stored y f r k (tree_known (known_in f) e)) (λ k. array_stays ks y f r k (tree_known (known_in f) e) over a h.0 given)
 applied_by ks y f (Guard e b) over a h = guard_stays ks y f e b over a h
 applied_by ks y f (Check s e) over a h = guard_stays ks y f e true over a h

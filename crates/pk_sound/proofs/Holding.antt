@@ -1,5 +1,5 @@
 -- No run leaves a solved family, and so none the result.
-use Rattle.std.proofs.Common.{◌≡◌, ◌<◌, inl, inr, ℕ, zero, suc, ap, ◌∙◌, sym, subst, refl, Option, Some, None, Bool, true, false, List, [], ◌∷◌, map, length, slice_get, slice_index_or, All, Contains, arith}
+use Rattle.std.proofs.Common.{◌≡◌, ◌<◌, inl, inr, ℕ, zero, suc, ap, ◌∙◌, sym, subst, refl, Option, Some, None, Bool, true, false, List, [], ◌∷◌, map, length, slice_index_or, All, Contains, arith}
 use Rattle.std.proofs.Math.ListN.{get_or-map}
 use Rattle.std.proofs.lemmas.List.{get_or_default, length-map}
 use Rattle.std.proofs.lemmas.List.Elements.{All-head, All-tail, All-map}
@@ -9,25 +9,25 @@ use Rattle.pk_graph.specs.Kinds.{Kind, Kinds, kind_at, count_of, count_at}
 use Rattle.pk_graph.specs.Trees.{InstrOf}
 use Rattle.pk_graph.specs.WellMade.{IsGraph, IsEdgeOf}
 use Rattle.pk_graph.specs.Steps.{Numbers, number_at, To, effect}
-use Rattle.pk_graph.specs.Stores.{Stored, storing, numbers_of, IsStore}
-use Rattle.pk_octmat.specs.Octagon.{entry}
+use Rattle.pk_graph.specs.Stores.{Stored, storing, numbers_of, number_of, IsStore}
 use Rattle.pk_value.specs.Known.{IsOf}
 use Rattle.pk_linear.proofs.ListLemmas.{contains_none, contains_cases}
 use Rattle.pk_value.proofs.Sound.{value_in}
-use Rattle.pk_state.specs.Layouts.{Layout, IsLayout, chosen_at, slot_of}
-use Rattle.pk_state.specs.Facts.{Facts, known_at, AreFactsIf, joined}
-use Rattle.pk_state.specs.Members.{number_if, selected, Member}
+use Rattle.pk_octagons.specs.Values.{known_at}
+use Rattle.pk_octagons.proofs.Chosen.{meet_same}
+use Rattle.pk_state.specs.Layouts.{Layout, IsLayout, slot_of}
+use Rattle.pk_state.specs.Facts.{Facts, AreFactsIf, joined}
+use Rattle.pk_state.specs.Members.{Member}
 use Rattle.pk_state.specs.Reduced.{reduced}
 use Rattle.pk_state.proofs.Held.{facts_stay}
 use Rattle.pk_state.proofs.Sound.{states_sound}
-use Rattle.pk_state.proofs.Changed.{chosen_is, meets_same}
 use Rattle.pk_graph_step.proofs.KeptLemmas.{steps_keep}
 use Rattle.pk_transfer.specs.Slots.{is_small, spread}
 use Rattle.pk_transfer.specs.Trees.{IsOver}
 use Rattle.pk_transfer.proofs.Slotting.{HasCounts, counts_of, slot_there, slot_large, small_numbers, large_numbers, own_numbers, first_kept}
 use Rattle.pk_transfer.specs.Transfers.{transferred}
 use Rattle.pk_transfer.proofs.Keeping.{transferred_keeps}
-use Rattle.pk_transfer.proofs.Layouting.{graphs_over}
+use Rattle.pk_analysis.proofs.Layouting.{layouts_over}
 use Rattle.pk_analysis.specs.declared.arrows.Arrow.{Arrow}
 use Rattle.pk_analysis.specs.Arrows.{arrows_at, origins, no_edge, instr_of}
 use Rattle.pk_analysis.specs.Starts.{start_facts}
@@ -191,10 +191,9 @@ module _ (ks : Kinds) (l : Layout) (f : Facts) (s : Stored) (lay : IsLayout l) (
           (subst (λ (ns : Numbers). i < length ns → IsOf (known_at f.values x) (number_at ns i)) (large_numbers (kinds_up ks) l (pad s) wide counted x here e)
           (m.values.each x i (subst (λ j. j < length f.values) own there)) q)
 
-  number_same : (o : Option ℕ) → ((x : ℕ) → o ≡ Some x → x < length s) → number_if (spread (pad s)) o ≡ number_if s o
-  number_same None inside = refl
-  number_same (Some x) inside =
-      let here : x < length (pad s) = omega (arith, inside x refl, length-map s padded) in
+  number_same : (x : ℕ) → x < length s → number_of (spread (pad s)) x ≡ number_of s x
+  number_same x inside =
+      let here : x < length (pad s) = omega (arith, inside, length-map s padded) in
       ap (λ (ns : Numbers). number_at ns 0) (own_numbers (pad s) x here) ∙ first_kept (numbers_of (pad s) x) ∙ numbers_at s x 0
 
   agreed : Agrees l (Some f) s
@@ -202,10 +201,8 @@ module _ (ks : Kinds) (l : Layout) (f : Facts) (s : Stored) (lay : IsLayout l) (
     values = λ x i q.
         let here : x < length (kinds_up ks) = omega (arith, some_below s x (omega (arith, q)), st.size, length-map ks kind_up) in
         subst (IsOf (known_at f.values (slot_of l x i))) (numbers_at s x i) (padded_of x i here (omega (arith, q, numbers_longer s x)));
-    scalars = λ k p. st.counts (chosen_at l k) (over.scalars k p).there ∙ ap count_of (over.scalars k p).scalar;
-    octagon = meets_same (entry f.octagon) (selected l.chosen (spread (pad s))) (selected l.chosen s) (λ k. number_same (slice_get l.chosen k) (λ x e.
-        let r = chosen_is l.chosen k x e in
-        omega (arith, st.size, subst (λ n. n < length ks) r.1 (over.scalars k r.0).there))) m.octagon;
+    scalars = λ x i. st.counts x (over.scalars x i).there ∙ ap count_of (over.scalars x i).scalar;
+    octagons = meet_same l.packs f.octagons (number_of (spread (pad s))) (number_of s) (λ x i. let here = (over.scalars x i).there in number_same x (omega (arith, st.size, here))) m.octagons;
   }
 
 agrees : (ks : Kinds) (l : Layout) (f : Option Facts) (s : Stored) → IsLayout l → IsOver ks l → IsStore ks s → AreFactsIf l f → Member l f (spread (pad s)) → Agrees l f s
@@ -241,8 +238,8 @@ results_are_families g o p order a most it is =
     record {
       laid_out = record {
         graph = is.graph;
-        layout = subst IsLayout (sym is.analysis.layout) (graphs_over.layouts g o.oct is.oct);
-        over = subst (IsOver (kinds_of g)) (sym is.analysis.layout) (graphs_over.over g o.oct);
+        layout = subst IsLayout (sym is.analysis.layout) (layouts_over.layouts g p o is.oct);
+        over = subst (IsOver (kinds_of g)) (sym is.analysis.layout) (layouts_over.over g p o);
       };
       solved = record { facts = λ v h. (at v h).known; below = λ v h. (at v h).below };
     }

@@ -35,7 +35,8 @@ use Rattle.pk_state.specs.Layouts.{Layout, IsLayout}
 use Rattle.pk_state.specs.Facts.{Facts, AreFactsIf}
 use Rattle.pk_state.specs.Members.{Member}
 use Rattle.pk_state.specs.Reduced.{reduced}
-use Rattle.pk_state.specs.Changes.{known_in, IsValue}
+use Rattle.pk_octagons.specs.Values.{IsValue}
+use Rattle.pk_state.specs.Changes.{known_in}
 use Rattle.pk_state.proofs.Held.{facts_stay}
 use Rattle.pk_graph_step.proofs.TypedLemmas.{typed_value, binary_right as right_value}
 use Rattle.pk_transfer.specs.Slots.{spread}

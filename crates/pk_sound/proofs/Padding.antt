@@ -1,5 +1,5 @@
 -- Arrays without elements, as if they had one that is 0: no step uses it.
-use Rattle.std.specs.Prelude.{◌≡◌, ◌⊎◌, ℕ, zero, suc, ◌+◌, ◌-◌, ◌++◌, ◌<◌, ◌≤◌, nat_eq, Bool, true, false, if◌then◌else◌, ℤ, pos, [], ◌∷◌, map, length, replicate, slice_index_or, slice_set, Option, Some, None, Result, Ok}
+use Rattle.std.specs.Prelude.{◌≡◌, ◌⊎◌, ℕ, zero, suc, ◌+◌, ◌-◌, ◌++◌, ◌<◌, ◌≤◌, nat_eq, Bool, true, false, if◌then◌else◌, ℤ, pos, [], ◌∷◌, map, length, replicate, slice_set, Option, Some, None, Result, Ok}
 use Rattle.std.specs.List.{flat_map}
 use Rattle.std.proofs.Common.{arith, refl, ap, sym, subst, ◌∙◌, inl, inr, length-set}
 use Rattle.std.proofs.Math.ListN.{get_or-map}
@@ -205,7 +205,7 @@ over_up ks l o = record {
   types =
       o.types ∙ sym (ap (λ ts. ts ++ flat_map further_types (kinds_up ks)) (own_types_up ks) ∙ ap (λ ts. map (λ (k : Kind). k.int_type) ks ++ ts) (further_types_up ks));
   further = o.further ∙ sym (ap (λ n. further_from n (kinds_up ks)) (long_up ks) ∙ further_from_up ks (length ks));
-  scalars = λ k p. scalar_up ks (slice_index_or l.chosen k 0) (o.scalars k p);
+  scalars = λ x i. scalar_up ks x (o.scalars x i);
 }
 
 -- ---- what is typed

@@ -9,7 +9,6 @@ use Rattle.pk_graph.specs.WellMade.{IsGraph}
 use Rattle.pk_state.specs.Layouts.{Layout, IsLayout}
 use Rattle.pk_state.specs.Facts.{Facts, Stated, AreFactsIf, IsBelow}
 use Rattle.pk_transfer.specs.Trees.{IsOver}
-use Rattle.pk_transfer.proofs.Layouting.{graphs_over}
 use Rattle.pk_plan.specs.declared.components.Component.{Component}
 use Rattle.pk_plan.specs.Order.{Level}
 use Rattle.pk_plan.specs.Plans.{PlanView}
@@ -33,6 +32,7 @@ use Rattle.pk_analysis.specs.Digraphs.{targets_of, digraph_of}
 use Rattle.pk_analysis.specs.Parts.{part_at, AreParts}
 use Rattle.pk_analysis.specs.Flows.{stated, equation}
 use Rattle.pk_analysis.specs.Orders.{is_below}
+use Rattle.pk_analysis.proofs.Layouting.{layouts_over}
 use Rattle.pk_sound.specs.Solved.{ResultIsSolved}
 use Rattle.pk_sound.proofs.Ahead.{order_once, element_in, has_component}
 use Rattle.pk_sound.proofs.Arrows_at.{arrows_to}
@@ -139,8 +139,8 @@ module _ (g : GraphOf) (l : Layout) (thresholds : List ℤ) (parts : List Part) 
 
 pub result_is_solved : ResultIsSolved
 result_is_solved g o p order a most it is v h =
-    let lay : IsLayout a.layout = subst IsLayout (sym is.analysis.layout) (graphs_over.layouts g o.oct is.oct) in
-    let over : IsOver (kinds_of g) a.layout = subst (IsOver (kinds_of g)) (sym is.analysis.layout) (graphs_over.over g o.oct) in
+    let lay : IsLayout a.layout = subst IsLayout (sym is.analysis.layout) (layouts_over.layouts g p o is.oct) in
+    let over : IsOver (kinds_of g) a.layout = subst (IsOver (kinds_of g)) (sym is.analysis.layout) (layouts_over.over g p o) in
     let result = subst (λ (k : GraphOf). IsResult (behaviour_of (system_of k a.layout a.thresholds a.parts a.delay a.narrow)) order p.elements most it) is.analysis.graph is.result in
     let s = solved_by g a.layout a.thresholds a.parts a.delay a.narrow p order most it is.graph lay over is.analysis.parts is.ordered result v h in
     record { given = s.given; known = s.known; below = s.below }

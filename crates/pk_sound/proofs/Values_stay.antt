@@ -29,9 +29,10 @@ use Rattle.pk_value.specs.Known.{Known, exactly, red_known}
 use Rattle.pk_value.specs.Values.{one_if, compared, red_as, fitted, from_table, is_constant, exact_if, operated, converted}
 use Rattle.pk_value.proofs.Reducing.{constant_of}
 use Rattle.pk_value.proofs.Sound.{value_in, natural, product_from_zero as product_natural}
-use Rattle.pk_state.specs.Layouts.{Layout, type_at}
+use Rattle.pk_octagons.specs.Values.{type_at, IsValue}
+use Rattle.pk_state.specs.Layouts.{Layout}
 use Rattle.pk_state.specs.Facts.{Facts, AreFactsIf}
-use Rattle.pk_state.specs.Changes.{known_in, IsValue}
+use Rattle.pk_state.specs.Changes.{known_in}
 use Rattle.pk_state.proofs.Changed.{changes_stay}
 use Rattle.pk_state.proofs.Held.{every_reduced}
 use Rattle.pk_state.proofs.Stays.{red_value}
@@ -305,14 +306,14 @@ with_value : (P Q : Known → Type 0) (o : Option Known) (f : Known → Option K
 with_value P Q None f h g = tt
 with_value P Q (Some k) f h g = g k h
 
-known_value : (l : Layout) (f : Option Facts) (x : ℕ) → AreFactsIf l f → x < length l.types → IfSome (known_in f x) (IsValue (type_at l x))
+known_value : (l : Layout) (f : Option Facts) (x : ℕ) → AreFactsIf l f → x < length l.types → IfSome (known_in f x) (IsValue (type_at l.types x))
 known_value l f x a h = by (known_in f x) refl
   where
-    by : (o : Option Known) → known_in f x ≡ o → IfSome o (IsValue (type_at l x))
+    by : (o : Option Known) → known_in f x ≡ o → IfSome o (IsValue (type_at l.types x))
     by None e = tt
     by (Some k) e = changes_stay.known l f x k a h e
 
-pub variable_value : (l : Layout) (f : Option Facts) (x : ℕ) → AreFactsIf l f → x < length l.types → IfSome (known_in f x) (IsValue (type_at l x))
+pub variable_value : (l : Layout) (f : Option Facts) (x : ℕ) → AreFactsIf l f → x < length l.types → IfSome (known_in f x) (IsValue (type_at l.types x))
 variable_value = known_value
 
 pub tree_stays : (l : Layout) (f : Option Facts) (e : TreeOf ℕ) → AreFactsIf l f → IsTyped (kinds_of l) e → IfSome (tree_known (known_in f) e) (IsValue (type_of (kinds_of l) e))

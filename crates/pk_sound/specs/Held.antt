@@ -2,12 +2,13 @@
 use Rattle.std.specs.Prelude.{◌≡◌, ℕ, ◌<◌, length, Option, Some, None}
 use Rattle.pk_graph.specs.Graphs.{GraphOf, kinds_of}
 use Rattle.pk_graph.specs.Steps.{number_at}
-use Rattle.pk_graph.specs.Stores.{Stored, numbers_of, IsStore}
+use Rattle.pk_graph.specs.Stores.{Stored, numbers_of, number_of, IsStore}
 use Rattle.pk_value.specs.Known.{IsOf}
-use Rattle.pk_octmat.specs.Octagon.{entry, Meets}
-use Rattle.pk_state.specs.Layouts.{Layout, chosen_at, slot_of}
-use Rattle.pk_state.specs.Facts.{Facts, Stated, known_at}
-use Rattle.pk_state.specs.Members.{selected, Member}
+use Rattle.pk_octagons.specs.Values.{known_at}
+use Rattle.pk_octagons.specs.Members.{IsChosen, MeetAll}
+use Rattle.pk_state.specs.Layouts.{Layout, slot_of}
+use Rattle.pk_state.specs.Facts.{Facts, Stated}
+use Rattle.pk_state.specs.Members.{Member}
 use Rattle.pk_transfer.specs.Slots.{spread}
 use Rattle.pk_plan.specs.Order.{Level}
 use Rattle.pk_plan.specs.Plans.{PlanView}
@@ -18,12 +19,12 @@ use Rattle.pk_analysis.specs.Flows.{Flow}
 use Rattle.pk_sound.specs.Runs.{HasElements, Reaches}
 use Rattle.pk_sound.specs.Results.{IsAnalysed, known_at_point, reduced_at_point}
 
--- each number of each variable is one that is known of its slot, the octagon's variables are scalars, and their numbers meet its bounds
+-- each number of each variable is one that is known of its slot, the octagons' variables are scalars, and their numbers meet all octagons
 pub record AgreesWith (l : Layout) (f : Facts) (s : Stored) : Type 0 where
   pub values : (x i : ℕ) → i < length (numbers_of s x) →
       IsOf (known_at f.values (slot_of l x i)) (number_at (numbers_of s x) i)
-  pub scalars : (k : ℕ) → k < length l.chosen → length (numbers_of s (chosen_at l k)) ≡ 1
-  pub octagon : Meets (entry f.octagon) (selected l.chosen s)
+  pub scalars : (x : ℕ) → IsChosen l.packs x → length (numbers_of s x) ≡ 1
+  pub octagons : MeetAll l.packs f.octagons (number_of s)
 
 abbrev pub Agrees : Layout → Option Facts → Stored → Type 0
 Agrees l None s = ⊥

@@ -17,7 +17,7 @@ use Rattle.pk_analysis.specs.Digraphs.{digraph_of}
 use Rattle.pk_analysis.specs.Flows.{Flow, stated, equation, equations_of, reduced_cell}
 use Rattle.pk_analysis.specs.Made.{IsAnalysisOf}
 
--- The analysis of a graph by the plan of its digraph, iterated in the plan's linear order. That the octagon's variables are counted in 31 bits is what the analysis asks when it is made.
+-- The analysis of a graph by the plan of its digraph, iterated in the plan's linear order. That an octagon's variables are counted in 31 bits is what the analysis asks when it is made.
 pub record IsAnalysed (g : GraphOf) (o : Options) (p : PlanView) (order : Level) (a : Flow) (most : ℕ)
     (it : Outcome (Cell Stated)) : Type 0 where
   pub graph : IsGraph g

@@ -16,7 +16,7 @@ use Rattle.pk_graph.specs.Graphs.{VariableOf, StartOf, any_start, number_start, 
 use Rattle.pk_graph.specs.WellMade.{IsGraph, IsStartOf}
 use Rattle.pk_value.specs.Known.{Known, any_of, exactly, joined}
 use Rattle.pk_state.specs.Layouts.{Layout, IsLayout}
-use Rattle.pk_state.specs.Facts.{known_at}
+use Rattle.pk_octagons.specs.Values.{known_at}
 use Rattle.pk_transfer.specs.Slots.{is_small, further_count, further_types, slot_types}
 use Rattle.pk_transfer.specs.Trees.{IsOver}
 use Rattle.pk_transfer.proofs.Slotting.{further_length}

@@ -10,7 +10,6 @@ use Rattle.pk_state.specs.Reduced.{reduced}
 use Rattle.pk_state.proofs.Held.{facts_stay}
 use Rattle.pk_transfer.specs.Trees.{IsOver}
 use Rattle.pk_transfer.specs.Transfers.{applied, transferred}
-use Rattle.pk_transfer.proofs.Layouting.{graphs_over}
 use Rattle.pk_iterate.specs.Behaviour.{HoldEach}
 use Rattle.pk_iterate.specs.Iteration.{cell_after, progress}
 use Rattle.pk_iterate.proofs.Held.{held, holds_map}
@@ -26,6 +25,7 @@ use Rattle.pk_analysis.specs.declared.analysis.Options.{Options}
 use Rattle.pk_analysis.specs.Arrows.{arrows_at, origins, instr_of}
 use Rattle.pk_analysis.specs.Flows.{Flow, equations_of, arrived, start_at, equation}
 use Rattle.pk_analysis.specs.Made.{IsAnalysisOf}
+use Rattle.pk_analysis.proofs.Layouting.{layouts_over}
 use Rattle.pk_analysis.specs.Starts.{start_facts}
 use Rattle.pk_plan.specs.Plans.{PlanView}
 use Rattle.pk_sound.proofs.Arrows_at.{IsArrowTo, arrows_to, arrow_over}
@@ -90,8 +90,8 @@ module _ (g : GraphOf) (l : Layout) (made : IsGraph g) (lay : IsLayout l) (over 
 -- so the equations of an analysis keep to such states
 pub analysis_keeps : (g : GraphOf) (o : Options) (p : PlanView) (a : Flow) → IsGraph g → o.oct < 2 ^ 31 → IsAnalysisOf g p o a → KeepHeld (equations_of a) (KnowsState a.layout)
 analysis_keeps g o p a made few is =
-    let lay : IsLayout a.layout = subst IsLayout (sym is.layout) (graphs_over.layouts g o.oct few) in
-    let over : IsOver (kinds_of g) a.layout = subst (IsOver (kinds_of g)) (sym is.layout) (graphs_over.over g o.oct) in
+    let lay : IsLayout a.layout = subst IsLayout (sym is.layout) (layouts_over.layouts g p o few) in
+    let over : IsOver (kinds_of g) a.layout = subst (IsOver (kinds_of g)) (sym is.layout) (layouts_over.over g p o) in
     subst (λ (k : GraphOf). KeepHeld (system_of k a.layout a.thresholds a.parts a.delay a.narrow) (KnowsState a.layout)) (sym is.graph) (system_keeps g a.layout made lay over a.thresholds a.parts a.delay a.narrow)
 
 pub cells_are_states : CellsAreStates

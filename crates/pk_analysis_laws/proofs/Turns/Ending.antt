@@ -1,19 +1,20 @@
 -- The analysis of a graph ends.
-use Rattle.std.specs.Prelude.{◌≡◌, ◌≤◌, ℕ, ℤ, List, length}
+use Rattle.std.specs.Prelude.{◌≡◌, ◌≤◌, ◌+◌, ℕ, ℤ, List, length}
 use Rattle.std.proofs.Common.{◌∙◌, ap, sym, subst, refl}
 use Rattle.pk_graph.specs.Graphs.{GraphOf, kinds_of}
-use Rattle.pk_graph.specs.OctagonVariables.{octagon_variables_of}
 use Rattle.pk_state.specs.Layouts.{Layout}
 use Rattle.pk_transfer.specs.Slots.{slot_types}
-use Rattle.pk_transfer.specs.Graphs.{layout_of}
+use Rattle.pk_transfer.specs.Graphs.{layout_over}
 use Rattle.pk_thresh.specs.Thresholds.{AreThresholds}
-use Rattle.pk_thresh.specs.Chains.{chain_bound_of, IsChainBound}
+use Rattle.pk_thresh.specs.Chains.{chain_bound_of}
+use Rattle.pk_packs.specs.Chains.{IsChainBound, entries_of}
 use Rattle.pk_iterate.specs.BoundedTurns.{EndsWithin}
 use Rattle.pk_phases.specs.Values.{IsRank}
 use Rattle.pk_phases.specs.Equations.{behaviour_of}
 use Rattle.pk_phases.specs.Turns.{turn_bound}
 use Rattle.pk_phases.proofs.Planned_turns.{linear_order_ends}
 use Rattle.pk_analysis.specs.Flows.{equations_of, state_operations}
+use Rattle.pk_analysis.specs.Layouts.{packs_for}
 use Rattle.pk_sound.proofs.Planning.{analyses_go_by_plan}
 use Rattle.pk_analysis_laws.specs.Ranks.States.{IsStateOf, bound_of, rank_in}
 use Rattle.pk_analysis_laws.proofs.Ranks.Ranked.{states_are_ranked, widening_chains_end}
@@ -29,19 +30,15 @@ stated_ranks l thresholds = record {
   falls = λ h n f g e. states_are_ranked.falls l thresholds h.facts n.facts f g e;
 }
 
--- the bound of the graph's layout is that of the graph
-bound_is : (g : GraphOf) (oct : ℕ) (l : Layout) (ts : List ℤ) → l ≡ layout_of g oct → bound_of l ts ≡ chain_bound_of (length (slot_types (kinds_of g))) (length ts) (length (octagon_variables_of g oct))
-bound_is g oct l ts is = ap (λ (y : Layout). bound_of y ts) is
-
--- and so is that of any layout and thresholds of it
-bound_at : (g : GraphOf) (oct chain : ℕ) (l : Layout) (ts : List ℤ) → IsChainBound g oct chain → l ≡ layout_of g oct → AreThresholds g ts → bound_of l ts ≡ chain
-bound_at g oct chain l ts bound is are =
-    bound_is g oct l ts is
-    ∙ ap (λ (us : List ℤ). chain_bound_of (length (slot_types (kinds_of g))) (length us) (length (octagon_variables_of g oct))) (thresholds_same g ts bound.0 are bound.1) ∙ sym bound.2
+-- the bound of a layout of the graph and thresholds of it is that of the graph
+bound_at : (g : GraphOf) (packs : List (List ℕ)) (chain : ℕ) (l : Layout) (ts : List ℤ) → IsChainBound g packs chain → l ≡ layout_over g packs → AreThresholds g ts → bound_of l ts ≡ chain
+bound_at g packs chain l ts bound is are =
+    ap (λ (y : Layout). bound_of y ts) is
+    ∙ ap (λ (us : List ℤ). chain_bound_of (length (slot_types (kinds_of g))) (length us) 0 + entries_of packs) (thresholds_same g ts bound.0 are bound.1) ∙ sym bound.2
 
 pub graph_chains_end : GraphChainsEnd
-graph_chains_end g oct chain ts h ns bound are f c =
-    subst (λ (k : ℕ). length ns ≤ k) (bound_at g oct chain (layout_of g oct) ts bound refl are) (widening_chains_end.ends (layout_of g oct) ts h ns f c)
+graph_chains_end g packs chain ts h ns bound are f c =
+    subst (λ (k : ℕ). length ns ≤ k) (bound_at g packs chain (layout_over g packs) ts bound refl are) (widening_chains_end.ends (layout_over g packs) ts h ns f c)
 
 pub small_bounds : SmallBounds
 small_bounds = record { chain = refl; turns = refl }
@@ -52,7 +49,7 @@ analyses_end g o p order a chain made few system bound =
     let ends : EndsWithin (behaviour_of (equations_of a)) order (turn_bound (bound_of a.layout a.thresholds) a.narrow a.delay) =
     linear_order_ends (equations_of a) (KnowsState a.layout) (analysis_keeps g o p a made few system.analysis) p order (λ s. rank_in a.layout a.thresholds s.facts) (bound_of a.layout a.thresholds) system.ordered.is_linear plan.components plan.points
     (λ c of. stated_ranks a.layout a.thresholds) in
-    let most = bound_at g o.oct chain a.layout a.thresholds bound system.analysis.layout system.analysis.thresholds in
+    let most = bound_at g (packs_for g p o) chain a.layout a.thresholds bound system.analysis.layout system.analysis.thresholds in
     subst (λ (k : ℕ). EndsWithin (behaviour_of (equations_of a)) order (turn_bound chain o.narrow k)) system.analysis.delay
     (subst (λ (k : ℕ). EndsWithin (behaviour_of (equations_of a)) order (turn_bound chain k a.delay)) system.analysis.narrow
     (subst (λ (k : ℕ). EndsWithin (behaviour_of (equations_of a)) order (turn_bound k a.narrow a.delay)) most ends))

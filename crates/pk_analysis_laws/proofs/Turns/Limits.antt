@@ -12,7 +12,7 @@ use Rattle.pk_analysis_laws.proofs.Turns.Ending.{analyses_end}
 use Rattle.pk_analysis_laws.proofs.Turns.Counting.{runs_are_few}
 
 pub limits_are_low : LimitsAreLow
-limits_are_low g o most chain made few bound over =
+limits_are_low g o most chain made few over bound =
     let b = behaviour_of (equations_of over.flow) in
     let turns : ℕ = turn_bound chain o.narrow o.delay in
     let within = analyses_end g o over.plan over.order over.flow chain made few over.system bound in

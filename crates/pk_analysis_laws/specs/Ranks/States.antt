@@ -1,19 +1,22 @@
 -- How long a chain of widening steps of states can be.
+use Rattle.std.specs.List.{sum_by}
 use Rattle.std.specs.Prelude.{◌≡◌, ◌≢◌, ℕ, ◌+◌, ◌<◌, ◌≤◌, false, ℤ, List, [], ◌∷◌, length, Option, Some, None}
 use Rattle.pk_congr.specs.Laws.{IsOf}
 use Rattle.pk_value.specs.Known.{Known}
 use Rattle.pk_value.specs.Laws.{rank_of}
 use Rattle.pk_octops.specs.Chains.{numbers_of}
-use Rattle.pk_state.specs.Layouts.{Layout, IsLayout, type_at}
-use Rattle.pk_state.specs.Facts.{Facts, known_at, AreFacts, AreFactsIf, IsBelow, joined, widened, narrowed}
+use Rattle.pk_octagons.specs.Values.{type_at, known_at}
+use Rattle.pk_state.specs.Layouts.{Layout, IsLayout}
+use Rattle.pk_state.specs.Facts.{Facts, AreFacts, AreFactsIf, IsBelow, joined, widened, narrowed}
 use Rattle.pk_state.specs.Reduced.{reduced}
 use Rattle.pk_thresh.specs.Chains.{chain_bound_of}
+use Rattle.pk_packs.specs.Chains.{entries_of}
 use Rattle.pk_analysis.specs.Orders.{is_below}
 
 -- facts of the layout, each class one of its variable's type: the modulus is at most 2^64, and a constant is a number of the type
 pub record AreBoundedFacts (l : Layout) (f : Facts) : Type 0 where
   pub facts : AreFacts l f
-  pub classes : (x : ℕ) → x < length f.values → IsOf (type_at l x) (known_at f.values x).class
+  pub classes : (x : ℕ) → x < length f.values → IsOf (type_at l.types x) (known_at f.values x).class
 
 -- a state of the layout: none, or such facts
 abbrev pub IsStateOf : Layout → Option Facts → Type 0
@@ -23,15 +26,15 @@ IsStateOf l (Some f) = AreBoundedFacts l f
 -- how often the values of the variables from x on can still move
 abbrev pub moves_from : Layout → List ℤ → ℕ → List Known → ℕ
 moves_from l thresholds x [] = 0
-moves_from l thresholds x (k ∷ ks) = rank_of (type_at l x) thresholds k + moves_from l thresholds (x + 1) ks
+moves_from l thresholds x (k ∷ ks) = rank_of (type_at l.types x) thresholds k + moves_from l thresholds (x + 1) ks
 
 abbrev pub bound_of : Layout → List ℤ → ℕ
-bound_of l thresholds = chain_bound_of (length l.types) (length thresholds) (length l.chosen)
+bound_of l thresholds = chain_bound_of (length l.types) (length thresholds) 0 + entries_of l.packs
 
--- how often a state can still move, with the numbers among the octagon's bounds; where no fact is known, once more than any that has facts
+-- how often a state can still move, with the numbers among the octagons' bounds; where no fact is known, once more than any that has facts
 abbrev pub rank_in : Layout → List ℤ → Option Facts → ℕ
 rank_in l thresholds None = bound_of l thresholds
-rank_in l thresholds (Some f) = moves_from l thresholds 0 f.values + numbers_of f.octagon
+rank_in l thresholds (Some f) = moves_from l thresholds 0 f.values + sum_by numbers_of f.octagons
 
 -- It is a rank of widening steps: at most the bound, never more after a step, fewer after one by a state that isn't below.
 pub record StatesAreRanked : Type 0 where

@@ -2,7 +2,7 @@
 use Rattle.std.specs.Prelude.{ℕ, ◌+◌, ◌*◌, ◌^◌, ◌<◌, ◌≤◌, ◌==◌, max, if◌then◌else◌}
 use Rattle.pk_graph.specs.Graphs.{GraphOf}
 use Rattle.pk_graph.specs.WellMade.{IsGraph}
-use Rattle.pk_thresh.specs.Chains.{IsChainBound}
+use Rattle.pk_packs.specs.Chains.{IsChainBound}
 use Rattle.pk_plan.specs.Order.{Level, Empty, Vertex_then, Component_then}
 use Rattle.pk_iterate.specs.Behaviour.{Behaviour}
 use Rattle.pk_iterate.specs.Settled.{Once}
@@ -10,6 +10,7 @@ use Rattle.pk_iterate.specs.Ending.{result_count}
 use Rattle.pk_iterate.specs.BoundedTurns.{EndsWithin}
 use Rattle.pk_phases.specs.Turns.{turn_bound}
 use Rattle.pk_analysis.specs.declared.analysis.Options.{Options}
+use Rattle.pk_analysis.specs.Layouts.{packs_for}
 use Rattle.pk_analysis_laws.specs.Systems.{IsOver}
 
 abbrev pub once_at : ℕ → ℕ → ℕ
@@ -38,5 +39,5 @@ pub record RunsAreFew {C : Type 0} (b : Behaviour C) : Type 0 where
 -- Some element of a graph is run more often than the limit only where the limit is below the turns to the power of the depth of the graph's order.
 abbrev pub LimitsAreLow : Type 0
 LimitsAreLow =
-    (g : GraphOf) (o : Options) (most chain : ℕ) → IsGraph g → o.oct < 2 ^ 31 → IsChainBound g o.oct chain →
-    (over : IsOver g o most) → most < turn_bound chain o.narrow o.delay ^ depth_of over.order
+    (g : GraphOf) (o : Options) (most chain : ℕ) → IsGraph g → o.oct < 2 ^ 31 → (over : IsOver g o most) →
+    IsChainBound g (packs_for g over.plan o) chain → most < turn_bound chain o.narrow o.delay ^ depth_of over.order

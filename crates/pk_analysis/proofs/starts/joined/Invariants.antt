@@ -1,5 +1,5 @@
 use Rattle.std.proofs.Common.{◌≡◌, drop}
-use Rattle.pk_state.specs.Changes.{IsValue}
+use Rattle.pk_octagons.specs.Values.{IsValue}
 use Rattle.pk_analysis.specs.Starts.{joined_with}
 use Rattle.pk_analysis.proofs.starts.joined.Given as goal
 

@@ -1,8 +1,7 @@
-use Rattle.std.proofs.Common.{◌≡◌, ◌∙◌, ◌++◌, ap, subst}
-use Rattle.pk_ctypes.specs.declared.types.IntType.{IntType}
+use Rattle.std.proofs.Common.{◌∙◌, ◌++◌, ap, subst}
 use Rattle.pk_graph.specs.declared.graphs.Variable.{Variable}
 use Rattle.pk_graph.specs.Graphs.{variable_view}
-use Rattle.pk_state.specs.Changes.{IsValue}
+use Rattle.pk_octagons.specs.Values.{IsValue}
 use Rattle.pk_transfer.specs.Slots.{further_types}
 use Rattle.pk_analysis.specs.Starts.{own_known, further_known, AreTyped}
 use Rattle.pk_analysis.proofs.StartLemmas.{own_more, further_begun, further_more, further_whole}

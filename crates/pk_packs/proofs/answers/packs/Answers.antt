@@ -1,10 +1,7 @@
 use Rattle.std.proofs.Common.{◌≡◌, ◌<◌, ◌+◌, ℕ, List, [], ◌∷◌, ◌++◌, ap, sym, ◌∙◌, length, map, take, slice_index_or}
-use Rattle.std.specs.declared.vec.Vec.{Vec}
-use Rattle.std.specs.declared.alloc.Global.{Global}
-use Rattle.std.proofs.lemmas.List.{map_push, map_more, take_all}
+use Rattle.std.proofs.lemmas.List.{map_more, take_all}
 use Rattle.pk_graph.specs.Shown.{graph_view}
 use Rattle.pk_plan.specs.declared.components.Component.{Component}
-use Rattle.pk_plan.specs.Digraphs.{lists_of}
 use Rattle.pk_packs.specs.Belongs.{lies_in, lies_in_none}
 use Rattle.pk_packs.specs.Packs.{variables_over}
 use Rattle.pk_packs.proofs.answers.packs.Goals as goal
@@ -12,18 +9,17 @@ use Rattle.pk_packs.proofs.answers.packs.Goals as goal
 abbrev none : Component
 none = record { head = 0; exit = 0; first = 0; end = 0 }
 
-pushed : (vs new : List (Vec ℕ Global)) (v : Vec ℕ Global) (rest : List ℕ) (f : Component → List ℕ) (cs : List Component) (k : ℕ) (d : Component) → k < length cs
-    → new ≡ vs ++ v ∷ [] → v.items ≡ f (slice_index_or cs k d) → lists_of vs ≡ rest ∷ map f (take k cs) → lists_of new ≡ rest ∷ map f (take (k + 1) cs)
-pushed vs new v rest f cs k d h e is before =
-    ap lists_of e
-    ∙ map_push (λ (w : Vec ℕ Global). w.items) vs v
-    ∙ ap (λ (ls : List (List ℕ)). ls ++ v.items ∷ []) before
+pushed : (old new : List (List ℕ)) (pack rest : List ℕ) (f : Component → List ℕ) (cs : List Component) (k : ℕ) (d : Component) → k < length cs
+    → new ≡ old ++ pack ∷ [] → pack ≡ f (slice_index_or cs k d) → old ≡ rest ∷ map f (take k cs) → new ≡ rest ∷ map f (take (k + 1) cs)
+pushed old new pack rest f cs k d h e is before =
+    e
+    ∙ ap (λ (ls : List (List ℕ)). ls ++ pack ∷ []) before
     ∙ ap (λ (xs : List ℕ). (rest ∷ map f (take k cs)) ++ xs ∷ []) is
     ∙ ap (λ (ls : List (List ℕ)). rest ∷ ls) (sym (map_more f cs k d h))
 
 pub loop-component-init : goal.loop-component-init
 loop-component-init c =
-    ap lists_of (c.in_ok-push.ensures.items ∙ ap (λ (vs : List (Vec ℕ Global)). vs ++ c.in_ok-rest_pack.field-0 ∷ []) c.new-packs.ensures.items)
+    c.in_ok-push.ensures.items ∙ ap (λ (ls : List (List ℕ)). ls ++ c.in_ok-rest_pack.field-0 ∷ []) c.new-packs.ensures.items
     ∙ ap (λ (xs : List ℕ). xs ∷ []) c.in_ok-rest_pack.ensures
 
 pub loop-component-preserved : goal.loop-component-preserved
