@@ -20,7 +20,7 @@ use Rattle.pk_cert.specs.Pieces.{AreFirst}
 use Rattle.pk_cert.specs.Certificates.{certificate_text, IsCertificate}
 use Rattle.pk_cert.proofs.Sequences.{AreReading, begun, ended, next, stopped}
 use Rattle.pk_cert.proofs.Lines.{line_told, certificate_stops, certificate_goes_on, certificate_ends}
-use Rattle.pk_cert_states.specs.Lines.{line_slots, line_of, shape_of, IsState}
+use Rattle.pk_cert_states.specs.Lines.{HasOne, line_slots, line_of, shape_of, IsState}
 use Rattle.pk_cert_states.proofs.Telling.{is_kept, read_is_kept}
 use Rattle.pk_cert_cells.specs.Reading.{cell_of, shape_in, AreReadCells, IsStateless, AreCellsOf, AreCellsRead, IsNextRead}
 
@@ -85,8 +85,8 @@ module _ (ks : Kinds) (l : Layout) where
 
   -- ---- what a row tells
 
-  pub row_stateless : (row : Row) (line : Line) → length l.types ≡ length (line_slots ks) → row_view row ≡ seen_line line → ((f : Option Facts) → AreFactsIf l f → row_view row ≡ kept_line (line_of ks f) → ⊥) → IsState ks l line → ⊥
-  row_stateless row line same seen none s = none s.0 s.1 (seen ∙ ap seen_line s.2 ∙ is_kept l ks s.0 same s.1)
+  pub row_stateless : (row : Row) (line : Line) → HasOne l → length l.types ≡ length (line_slots ks) → row_view row ≡ seen_line line → ((f : Option Facts) → AreFactsIf l f → row_view row ≡ kept_line (line_of ks f) → ⊥) → IsState ks l line → ⊥
+  row_stateless row line one same seen none s = none s.0 s.1 (seen ∙ ap seen_line s.2 ∙ is_kept l ks s.0 one same s.1)
 
   pub row_state : (row : Row) (line : Line) (f : Option Facts) → row_view row ≡ seen_line line → row_view row ≡ kept_line (line_of ks f) → line ≡ line_of ks f
   row_state row line f seen kept = read_is_kept line (line_of ks f) (sym seen ∙ kept)

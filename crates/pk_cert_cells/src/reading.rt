@@ -17,7 +17,7 @@ ghost use Rattle.pk_cert_cells.specs.Reading.{AreReadCells, IsUnfit, AreCellsOf,
 use crate::failures::Unfit;
 use pk_cert::{Head, Row, Shape, Unread, read_row};
 use pk_cert_lines::{Told, read_alike, told_of};
-use pk_cert_states::{Order, state_of};
+use pk_cert_states::{Order, octagon_size, state_of};
 use pk_graph::Graph;
 use pk_phases::Cell;
 use pk_state::{Frame, State};
@@ -206,17 +206,17 @@ fn cells_of<'f>(
 
 // How many numbers and bounds the lines of a graph have, if these can be counted.
 fn shape(graph: &Graph, frame: &Frame, order: &Order) -> Option<Shape>
-    requires { order.now ≡ line_slots (kinds_of (graph_view graph.now)) }
+    requires frame { (oct : ℕ) × (frame.now ≡ layout_of (graph_view graph.now) oct) }
+    requires order { order.now ≡ line_slots (kinds_of (graph_view graph.now)) }
     ensures { MatchOption result ℕ (λ s. (s ≡ shape_of (kinds_of (graph_view graph.now)) frame.now)
         × (s.numbers + s.bounds < 2 ^ 64)) }
 {
     let _ = graph;
-    frame.is_layout();
     let slots = order.len();
     if slots >= 1 << 31 {
         return None;
     }
-    let d = 2 * frame.octagon_len();
+    let d = 2 * octagon_size(frame) as usize;
     Some(Shape {
         numbers: 4 * slots,
         bounds: d * d,

@@ -1,5 +1,5 @@
 -- Cells of certificates, and what an analysis leaves.
-use Rattle.std.specs.Prelude.{◌≡◌, ℕ, ◌<◌, ◌≤◌, List, [], ◌∷◌, map, length, take, slice_index_or, All, Option, None}
+use Rattle.std.specs.Prelude.{◌≡◌, ℕ, ◌<◌, ◌≤◌, false, List, [], ◌∷◌, map, length, take, slice_index_or, All, Option, None}
 use Rattle.std.proofs.Common.{arith, refl, sym, ap, subst, ◌∙◌}
 use Rattle.std.proofs.lemmas.List.{length-map, length-take-le, get_or-map, get_or-take}
 use Rattle.std.proofs.lemmas.List.FromFn.{length-map-range_with_len}
@@ -27,6 +27,7 @@ use Rattle.pk_cert_cells.specs.Reading.{cell_of, AreReadCells}
 use Rattle.pk_cert_check.specs.Checked.{cell_in, known_by, HoldStates}
 use Rattle.pk_cert_check.specs.Laws.{EveryCheckEnds}
 use Rattle.pk_cert_laws.specs.Checks.{ReadCellsHoldStates, ReadCellsAreChecked, ChecksWell, ResultsCheckWell}
+use Rattle.pk_cert_laws.proofs.One_octagon.{one_octagon}
 
 -- the cell of a point where this is known
 cell_there : (l : Layout) (known : List (Option Facts)) (v : ℕ) → v < length known → cell_in l (map (cell_of l) known) v ≡ cell_of l (slice_index_or known v None)
@@ -73,7 +74,7 @@ solved_same g l f k same s = record {
 
 -- ---- the result of an analysis
 
-module _ (g : GraphOf) (o : Options) (p : PlanView) (order : Level) (a : Flow) (most : ℕ) (it : Outcome (Cell Stated)) (is : IsAnalysed g o p order a most it) where
+module _ (g : GraphOf) (o : Options) (p : PlanView) (order : Level) (a : Flow) (most : ℕ) (it : Outcome (Cell Stated)) (is : IsAnalysed g o p order a most it) (one : o.packs ≡ false) where
   cells_many : length g.points ≤ length it.cells
   cells_many =
       let points : p.points ≡ length g.points = is.ordered.is_plan.points ∙ length-map g.points (λ (q : PointOf). map (λ (e : EdgeOf). e.to) q.edges) in
@@ -84,13 +85,16 @@ module _ (g : GraphOf) (o : Options) (p : PlanView) (order : Level) (a : Flow) (
   known_many : length (facts_in (layout_of g o.oct) (length g.points) it.cells) ≡ length g.points
   known_many = length-map (take (length g.points) it.cells) (λ (c : Cell Stated). (state_in (layout_of g o.oct) c).facts) ∙ length-take-le (length g.points) it.cells cells_many
 
+  layout : a.layout ≡ layout_of g o.oct
+  layout = is.analysis.layout ∙ one_octagon g p o one
+
   -- what the cells say is what the result knows
   known_there : (v : ℕ) → v < length g.points → slice_index_or (facts_in (layout_of g o.oct) (length g.points) it.cells) v None ≡ known_at_point a it v
   known_there v h =
       get_or-map (λ (c : Cell Stated). (state_in (layout_of g o.oct) c).facts) (take (length g.points) it.cells) v (Value (stated (layout_of g o.oct) None)) None
       (omega (arith, h, length-take-le (length g.points) it.cells cells_many))
       ∙ ap (λ (c : Cell Stated). (state_in (layout_of g o.oct) c).facts) (get_or-take (length g.points) it.cells v (Value (stated (layout_of g o.oct) None)) h)
-      ∙ ap (λ (y : Layout). (value_of (stated y None) (slice_index_or it.cells v (Value (stated y None)))).facts) (sym is.analysis.layout)
+      ∙ ap (λ (y : Layout). (value_of (stated y None) (slice_index_or it.cells v (Value (stated y None)))).facts) (sym layout)
 
   cells_say : (v : ℕ) → v < length g.points → known_at_point a it v ≡ known_by (layout_of g o.oct) (map (cell_of (layout_of g o.oct)) (facts_in (layout_of g o.oct) (length g.points) it.cells)) v
   cells_say v h =
@@ -99,11 +103,11 @@ module _ (g : GraphOf) (o : Options) (p : PlanView) (order : Level) (a : Flow) (
 
   pub well : ResultsAreFamilies → ChecksWell g o.oct (facts_in (layout_of g o.oct) (length g.points) it.cells)
   well law =
-      let s = subst (λ (y : Layout). IsSolved g y (known_at_point a it)) is.analysis.layout (law g o p order a most it is).solved in
+      let s = subst (λ (y : Layout). IsSolved g y (known_at_point a it)) layout (law g o p order a most it is).solved in
       record {
         facts = record { each = known_many; facts = λ v h. subst (AreFactsIf (layout_of g o.oct)) (sym (known_there v h)) (s.facts v h) };
         solved = solved_same g (layout_of g o.oct) (known_at_point a it) (known_by (layout_of g o.oct) (map (cell_of (layout_of g o.oct)) (facts_in (layout_of g o.oct) (length g.points) it.cells))) cells_say s;
       }
 
 pub results_check_well : ResultsAreFamilies → ResultsCheckWell
-results_check_well law g o p order a most it is = well g o p order a most it is law
+results_check_well law g o p order a most it is one = well g o p order a most it is one law

@@ -1,2 +1,3 @@
+pub mod One_octagon
 mod Checking
 mod Holding

@@ -1,5 +1,5 @@
 -- What is read of a certificate may be checked, with an answer, and what an analysis leaves checks well.
-use Rattle.std.specs.Prelude.{ℕ, List, map, length, Option, None}
+use Rattle.std.specs.Prelude.{◌≡◌, ℕ, false, List, map, length, Option, None}
 use Rattle.pk_graph.specs.Graphs.{GraphOf}
 use Rattle.pk_graph.specs.WellMade.{IsGraph}
 use Rattle.pk_state.specs.Facts.{Facts, Stated}
@@ -35,9 +35,9 @@ pub record ChecksWell (g : GraphOf) (oct : ℕ) (known : List (Option Facts)) : 
   pub facts : ArePointFacts g oct known
   pub solved : IsChecked g (layout_of g oct) (map (cell_of (layout_of g oct)) known) None
 
--- What an analysis of a graph leaves at its points checks well.
+-- What an analysis of a graph leaves at its points, with one octagon, checks well.
 abbrev pub ResultsCheckWell : Type 0
 ResultsCheckWell =
     (g : GraphOf) (o : Options) (p : PlanView) (order : Level) (a : Flow) (most : ℕ) (it : Outcome (Cell Stated)) →
-    IsAnalysed g o p order a most it
+    IsAnalysed g o p order a most it → o.packs ≡ false
     → ChecksWell g o.oct (facts_in (layout_of g o.oct) (length g.points) it.cells)

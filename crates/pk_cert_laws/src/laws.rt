@@ -22,7 +22,7 @@ pub fn read_cells_are_checked()
     every_check_ends();
 }
 
-/// What an analysis of a graph leaves at its points are facts whose certificate checks well.
+/// What an analysis of a graph with one octagon leaves at its points are facts whose certificate checks well.
 pub fn results_check_well()
     ensures { ResultsCheckWell }
 {

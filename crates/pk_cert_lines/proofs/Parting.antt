@@ -9,8 +9,9 @@ use Rattle.std.proofs.lemmas.List.Folds.{concat-append}
 use Rattle.std.proofs.lemmas.List.Sums.{sum_by-cons}
 use Rattle.pk_ctypes.specs.declared.types.IntType.TheVariants.{Int}
 use Rattle.pk_value.specs.Known.{Known, any_of}
-use Rattle.pk_state.specs.Facts.{Facts, known_at}
-use Rattle.pk_cert_states.specs.Lines.{four_of, fours_at, symbols_in}
+use Rattle.pk_octagons.specs.Values.{known_at}
+use Rattle.pk_state.specs.Facts.{Facts}
+use Rattle.pk_cert_states.specs.Lines.{own_octagon, four_of, fours_at, symbols_in}
 use Rattle.pk_cert_states.specs.Parts.{slot_at, IsOrder}
 use Rattle.pk_cert_lines.specs.Symbols.{spaced}
 use Rattle.pk_cert_lines.specs.Told.{texts_at, parts_in, sizes_of, AreParts}
@@ -92,12 +93,12 @@ texts_joined (j ∷ js) vs = ap (λ (r : List ℕ). spaced (four_of (known_at vs
 pub parts_joined : (slots : List ℕ) (f : Facts) → concat (parts_in slots f) ≡ spaced (symbols_in slots f)
 unfolding parts_in
 parts_joined slots f =
-    concat-append (texts_at slots f.values) (spaced f.octagon.cells ∷ []) ∙ ap (λ (r : List ℕ). concat (texts_at slots f.values) ++ r) (append-nil (spaced f.octagon.cells))
-    ∙ ap (λ (r : List ℕ). r ++ spaced f.octagon.cells) (texts_joined slots f.values) ∙ sym (spaced_joined (fours_at slots f.values) f.octagon.cells)
+    concat-append (texts_at slots f.values) (spaced (own_octagon f).cells ∷ []) ∙ ap (λ (r : List ℕ). concat (texts_at slots f.values) ++ r) (append-nil (spaced (own_octagon f).cells))
+    ∙ ap (λ (r : List ℕ). r ++ spaced (own_octagon f).cells) (texts_joined slots f.values) ∙ sym (spaced_joined (fours_at slots f.values) (own_octagon f).cells)
 
 pub parts_many : (slots : List ℕ) (f : Facts) → length (parts_in slots f) ≡ length slots + 1
 unfolding parts_in
-parts_many slots f = omega (arith, length-append (texts_at slots f.values) (spaced f.octagon.cells ∷ []), texts_length slots f.values)
+parts_many slots f = omega (arith, length-append (texts_at slots f.values) (spaced (own_octagon f).cells ∷ []), texts_length slots f.values)
 
 -- ---- another value of a slot
 
@@ -122,22 +123,22 @@ texts_set slots vs p v order same h =
         ∙ sym (get_or-set_other (texts_at slots vs) p q (spaced (four_of v)) [] other)
 
 abbrev pub with_value : Facts → ℕ → Known → Facts
-with_value f j v = record { values = slice_set f.values j v; octagon = f.octagon }
+with_value f j v = record { values = slice_set f.values j v; octagons = f.octagons }
 
 pub parts_known : (slots : List ℕ) (f : Facts) (j : ℕ) (v : Known) (p : ℕ) → IsOrder slots → length f.values ≡ length slots → p < length slots → slot_at slots p ≡ j
     → parts_in slots (with_value f j v) ≡ slice_set (parts_in slots f) p (spaced (four_of v))
 unfolding parts_in
 parts_known slots f j v p order same h at =
-    ap (λ (i : ℕ). texts_at slots (slice_set f.values i v) ++ spaced f.octagon.cells ∷ []) (sym at)
-    ∙ ap (λ (r : List (List ℕ)). r ++ spaced f.octagon.cells ∷ []) (texts_set slots f.values p v order same h)
-    ∙ sym (set-append_left (texts_at slots f.values) (spaced f.octagon.cells ∷ []) p (spaced (four_of v)) (omega (arith, h, texts_length slots f.values)))
+    ap (λ (i : ℕ). texts_at slots (slice_set f.values i v) ++ spaced (own_octagon f).cells ∷ []) (sym at)
+    ∙ ap (λ (r : List (List ℕ)). r ++ spaced (own_octagon f).cells ∷ []) (texts_set slots f.values p v order same h)
+    ∙ sym (set-append_left (texts_at slots f.values) (spaced (own_octagon f).cells ∷ []) p (spaced (four_of v)) (omega (arith, h, texts_length slots f.values)))
 
 -- ---- another octagon
 
-pub parts_bounded : (slots : List ℕ) (f h : Facts) (p : ℕ) → h.values ≡ f.values → p ≡ length slots → parts_in slots h ≡ slice_set (parts_in slots f) p (spaced h.octagon.cells)
+pub parts_bounded : (slots : List ℕ) (f h : Facts) (p : ℕ) → h.values ≡ f.values → p ≡ length slots → parts_in slots h ≡ slice_set (parts_in slots f) p (spaced (own_octagon h).cells)
 unfolding parts_in
 parts_bounded slots f h p same at =
     let last : p - length slots ≡ 0 = omega (arith, at) in
-    ap (λ (vs : List Known). texts_at slots vs ++ spaced h.octagon.cells ∷ []) same
-    ∙ ap (λ (i : ℕ). texts_at slots f.values ++ slice_set (spaced f.octagon.cells ∷ []) i (spaced h.octagon.cells)) (sym last)
-    ∙ sym (set-append_right (texts_at slots f.values) (spaced f.octagon.cells ∷ []) (length slots) p (spaced h.octagon.cells) (texts_length slots f.values) (omega (arith, at)))
+    ap (λ (vs : List Known). texts_at slots vs ++ spaced (own_octagon h).cells ∷ []) same
+    ∙ ap (λ (i : ℕ). texts_at slots f.values ++ slice_set (spaced (own_octagon f).cells ∷ []) i (spaced (own_octagon h).cells)) (sym last)
+    ∙ sym (set-append_right (texts_at slots f.values) (spaced (own_octagon f).cells ∷ []) (length slots) p (spaced (own_octagon h).cells) (texts_length slots f.values) (omega (arith, at)))

@@ -9,8 +9,10 @@ use Rattle.pk_octmat.specs.Octagon.{entry}
 use Rattle.pk_octmat.proofs.Cells.{cell_in, place_in}
 use Rattle.pk_state.specs.Layouts.{Layout}
 use Rattle.pk_state.specs.Facts.{Facts, AreFactsIf}
-use Rattle.pk_state.specs.Changes.{bound_in}
+use Rattle.pk_state.specs.Changes.{entry_in}
 use Rattle.pk_cert.specs.Rows.{symbol_text, end_of, symbols_text}
+use Rattle.pk_cert_states.specs.Lines.{own_octagon, own_pack, HasOne}
+use Rattle.pk_cert_states.proofs.Ones.{one_of}
 use Rattle.pk_cert_lines.specs.Symbols.{spaced, cells_in}
 
 abbrev one : Option ℤ → List ℕ
@@ -72,15 +74,16 @@ line_ended before bytes (z ∷ zs) n e h last =
 -- ---- bounds
 
 -- one more bound
-pub bounds_more : (l : Layout) (o : Option Facts) (n i j : ℕ) → AreFactsIf l o → (o ≡ None → ⊥) → length l.chosen ≡ n → i < 2 * n → j < 2 * n
-    → take (i * (2 * n) + j) (cells_in o) ++ bound_in o i j ∷ [] ≡ take (i * (2 * n) + (j + 1)) (cells_in o)
-bounds_more l None n i j h some size p q = absurd (some refl)
-bounds_more l (Some f) n i j h some size p q =
-    let d : ℕ = 2 * n in
-    let vars : f.octagon.vars ≡ n = h.vars ∙ size in
-    let many : length f.octagon.cells ≡ 2 * n * (2 * n) = h.octagon.whole.size ∙ ap (λ (k : ℕ). 2 * k * (2 * k)) vars in
-    let there : entry f.octagon i j ≡ slice_index_or f.octagon.cells (i * (2 * n) + j) None =
-    cell_in (2 * f.octagon.vars) f.octagon.cells i j (omega (arith, p, vars)) (omega (arith, q, vars)) ∙ ap (λ (k : ℕ). slice_index_or f.octagon.cells (i * (2 * k) + j) None) vars in
+pub bounds_more : (l : Layout) (o : Option Facts) (n i j : ℕ) → HasOne l → AreFactsIf l o → (o ≡ None → ⊥) → length (own_pack l) ≡ n → i < 2 * n → j < 2 * n
+    → take (i * (2 * n) + j) (cells_in o) ++ entry_in o 0 i j ∷ [] ≡ take (i * (2 * n) + (j + 1)) (cells_in o)
+bounds_more l None n i j single h some size p q = absurd (some refl)
+bounds_more l (Some f) n i j single h some size p q =
+    let m = own_octagon f in
+    let own = one_of l f single h in
+    let vars : m.vars ≡ n = own.vars ∙ size in
+    let many : length m.cells ≡ 2 * n * (2 * n) = own.octagon.whole.size ∙ ap (λ (k : ℕ). 2 * k * (2 * k)) vars in
+    let there : entry m i j ≡ slice_index_or m.cells (i * (2 * n) + j) None =
+    cell_in (2 * m.vars) m.cells i j (omega (arith, p, vars)) (omega (arith, q, vars)) ∙ ap (λ (k : ℕ). slice_index_or m.cells (i * (2 * k) + j) None) vars in
     let up : i * (2 * n) + (j + 1) ≡ suc (i * (2 * n) + j) = omega arith in
-    ap (λ (z : Option ℤ). take (i * (2 * n) + j) f.octagon.cells ++ z ∷ []) there
-    ∙ sym (ap (λ (k : ℕ). take k f.octagon.cells) up ∙ take-suc f.octagon.cells (i * (2 * n) + j) None (place_in (2 * n) f.octagon.cells i j many p q))
+    ap (λ (z : Option ℤ). take (i * (2 * n) + j) m.cells ++ z ∷ []) there
+    ∙ sym (ap (λ (k : ℕ). take k m.cells) up ∙ take-suc m.cells (i * (2 * n) + j) None (place_in (2 * n) m.cells i j many p q))

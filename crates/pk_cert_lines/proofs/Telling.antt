@@ -8,14 +8,16 @@ use Rattle.pk_value.specs.Known.{Known, any_of}
 use Rattle.pk_octmat.specs.Octagon.{Octagon}
 use Rattle.pk_octmat.specs.Laws.{OctagonsAreEntries}
 use Rattle.pk_state.specs.Layouts.{Layout}
-use Rattle.pk_state.specs.Facts.{Facts, AreFactsIf, known_at}
-use Rattle.pk_state.specs.Changes.{known_in, bound_in, with_known}
+use Rattle.pk_octagons.specs.Values.{known_at}
+use Rattle.pk_state.specs.Facts.{Facts, AreFactsIf}
+use Rattle.pk_state.specs.Changes.{known_in, entry_in, with_known}
 use Rattle.pk_transfer.specs.Graphs.{layout_of}
 use Rattle.pk_cert.specs.Rows.{symbols_text, line_text}
 use Rattle.pk_cert.specs.Pieces.{AreFirst}
-use Rattle.pk_cert_states.specs.Lines.{line_slots, four_of, symbols_in, line_in}
+use Rattle.pk_cert_states.specs.Lines.{own_octagon, own_pack, HasOne, line_slots, four_of, symbols_in, line_in}
 use Rattle.pk_cert_states.specs.Parts.{slot_at, IsOrder}
 use Rattle.pk_cert_states.proofs.Telling.{as_many}
+use Rattle.pk_cert_states.proofs.Ones.{one_of}
 use Rattle.pk_cert_lines.specs.declared.told.Told.{Told}
 use Rattle.pk_cert_lines.specs.Symbols.{spaced, four_in, values_in, cells_in}
 use Rattle.pk_cert_lines.specs.Told.{texts_at, parts_in, AreParts, IsToldIn, IsTextOf}
@@ -49,14 +51,14 @@ values_all slots o n parts bytes sizes e are =
 
 -- the octagon's bounds behind them
 pub bounds_on : (o : Option Facts) (f : Facts) (parts : List (List ℕ)) (bytes sizes : List ℕ) → o ≡ Some f → AreParts parts bytes sizes
-    → AreParts (parts ++ spaced f.octagon.cells ∷ []) (bytes ++ spaced (cells_in o)) (sizes ++ length (spaced (cells_in o)) ∷ [])
+    → AreParts (parts ++ spaced (own_octagon f).cells ∷ []) (bytes ++ spaced (cells_in o)) (sizes ++ length (spaced (cells_in o)) ∷ [])
 bounds_on o f parts bytes sizes e are =
-    subst (λ (cs : List (Option ℤ)). AreParts (parts ++ spaced f.octagon.cells ∷ []) (bytes ++ spaced cs) (sizes ++ length (spaced cs) ∷ [])) (sym (ap cells_in e)) (parts_push parts bytes sizes (spaced f.octagon.cells) are)
+    subst (λ (cs : List (Option ℤ)). AreParts (parts ++ spaced (own_octagon f).cells ∷ []) (bytes ++ spaced cs) (sizes ++ length (spaced cs) ∷ [])) (sym (ap cells_in e)) (parts_push parts bytes sizes (spaced (own_octagon f).cells) are)
 
 pub text_whole : (slots : List ℕ) (o : Option Facts) (f : Facts) (bytes sizes : List ℕ) → o ≡ Some f
-    → AreParts (([] ++ texts_at slots (values_in o)) ++ spaced f.octagon.cells ∷ []) bytes sizes → AreParts (parts_in slots f) bytes sizes
+    → AreParts (([] ++ texts_at slots (values_in o)) ++ spaced (own_octagon f).cells ∷ []) bytes sizes → AreParts (parts_in slots f) bytes sizes
 unfolding parts_in
-text_whole slots o f bytes sizes e are = subst (λ (vs : List Known). AreParts (texts_at slots vs ++ spaced f.octagon.cells ∷ []) bytes sizes) (ap values_in e) are
+text_whole slots o f bytes sizes e are = subst (λ (vs : List Known). AreParts (texts_at slots vs ++ spaced (own_octagon f).cells ∷ []) bytes sizes) (ap values_in e) are
 
 -- as many slots as types
 pub many_of : (g : GraphOf) (oct : ℕ) (l : Layout) (slots : List ℕ) → l ≡ layout_of g oct → slots ≡ line_slots (kinds_of g) → length l.types ≡ length slots
@@ -99,6 +101,7 @@ value_put slots l t u x p v part order h facts same there at is layout now value
         record {
           told = record {
             layout = layout;
+            one = h.told.one;
             values = λ g d.
                 let one : with_value f x v ≡ g = some_same u.state.facts (with_value f x v) g after d in
                 values ∙ ap (λ (vs : List Known). slice_set vs x v) (h.told.values f e) ∙ ap (λ (y : Facts). y.values) one;
@@ -127,6 +130,7 @@ bounds_put slots l t u p part h at is layout some values list text sizes = by t.
         record {
           told = record {
             layout = layout;
+            one = h.told.one;
             values = λ y c. list ∙ h.told.values f e ∙ sym equal ∙ ap (λ (z : Facts). z.values) (some_same u.state.facts g y d c);
             parts = λ y c. subst (λ (z : Facts). AreParts (parts_in slots z) u.text.items u.sizes.items) (some_same u.state.facts g y d c) (subst (λ (ps : List (List ℕ)). AreParts ps u.text.items u.sizes.items) known put);
           };
@@ -213,14 +217,17 @@ values_same l (Some f) (Some g) n h k some other e same =
     ext_get_or (any_of Int) f.values g.values (h.values.size ∙ sym k.values.size)
     (λ x p. let known : ◌≡◌ {A = Option Known} (Some (known_at f.values x)) (Some (known_at g.values x)) = same x (omega (arith, p, e, h.values.size)) in cc)
 
-pub facts_same : (l : Layout) (a b : Option Facts) (n : ℕ) → OctagonsAreEntries → AreFactsIf l a → AreFactsIf l b → (a ≡ None → ⊥) → (b ≡ None → ⊥) → length l.chosen ≡ n → values_in b ≡ values_in a
-    → ((i j : ℕ) → i < 2 * n → j < 2 * n → bound_in a i j ≡ bound_in b i j) → a ≡ b
-facts_same l None b n law h k some other e values bounds = absurd (some refl)
-facts_same l (Some f) None n law h k some other e values bounds = absurd (other refl)
-facts_same l (Some f) (Some g) n law h k some other e values bounds =
-    let vars : g.octagon.vars ≡ n = k.vars ∙ e in
-    let octagon : f.octagon ≡ g.octagon = law.one f.octagon g.octagon h.octagon k.octagon (record {
-      vars = h.vars ∙ sym k.vars;
+pub facts_same : (l : Layout) (a b : Option Facts) (n : ℕ) → OctagonsAreEntries → HasOne l → AreFactsIf l a → AreFactsIf l b → (a ≡ None → ⊥) → (b ≡ None → ⊥) → length (own_pack l) ≡ n → values_in b ≡ values_in a
+    → ((i j : ℕ) → i < 2 * n → j < 2 * n → entry_in a 0 i j ≡ entry_in b 0 i j) → a ≡ b
+facts_same l None b n law single h k some other e values bounds = absurd (some refl)
+facts_same l (Some f) None n law single h k some other e values bounds = absurd (other refl)
+facts_same l (Some f) (Some g) n law single h k some other e values bounds =
+    let left = one_of l f single h in
+    let right = one_of l g single k in
+    let vars : (own_octagon g).vars ≡ n = right.vars ∙ e in
+    let octagon : own_octagon f ≡ own_octagon g = law.one (own_octagon f) (own_octagon g) left.octagon right.octagon (record {
+      vars = left.vars ∙ sym right.vars;
       each = λ i j p q. bounds i j (omega (arith, p, vars)) (omega (arith, q, vars));
     }) in
-    ap (λ (vs : List Known). Some (record { values = vs; octagon = f.octagon })) (sym values) ∙ ap (λ (m : Octagon). Some (record { values = g.values; octagon = m })) octagon
+    let octagons : f.octagons ≡ g.octagons = left.only ∙ ap (λ (m : Octagon). m ∷ []) octagon ∙ sym right.only in
+    ap (λ (vs : List Known). Some (record { values = vs; octagons = f.octagons })) (sym values) ∙ ap (λ (ms : List Octagon). Some (record { values = g.values; octagons = ms })) octagons

@@ -4,7 +4,7 @@ use Rattle.std.specs.List.{flat_map}
 use Rattle.pk_value.specs.Known.{Known}
 use Rattle.pk_state.specs.Facts.{Facts}
 use Rattle.pk_cert.specs.Rows.{symbol_text}
-use Rattle.pk_cert_states.specs.Lines.{four_of}
+use Rattle.pk_cert_states.specs.Lines.{own_octagon, four_of}
 
 -- symbols with a space behind each
 abbrev pub spaced : List (Option ℤ) → List ℕ
@@ -17,7 +17,7 @@ values_in (Some f) = f.values
 
 abbrev pub cells_in : Option Facts → List (Option ℤ)
 cells_in None = []
-cells_in (Some f) = f.octagon.cells
+cells_in (Some f) = (own_octagon f).cells
 
 -- the numbers of a value, if there is one
 abbrev pub four_in : Option Known → List (Option ℤ)

@@ -1,15 +1,15 @@
 // The line of a state, written beside the one before it.
 
 ghost use Rattle.std.specs.Prelude.{◌≡◌, ◌++◌, ◌+◌, ◌*◌, ◌%◌, ◌^◌, ◌<◌, ◌≤◌, ℕ, ℤ, List, Option, OnOk, IfOk, IfSome, MatchOption, length, None, Some, true};
-ghost use Rattle.pk_state.specs.Layouts.{type_at};
-ghost use Rattle.pk_state.specs.Changes.{IsValue, known_in, bound_in};
+ghost use Rattle.pk_octagons.specs.Values.{type_at, IsValue};
+ghost use Rattle.pk_state.specs.Changes.{known_in, entry_in};
 ghost use Rattle.pk_cert.specs.Rows.{symbols_text, line_text};
-ghost use Rattle.pk_cert_states.specs.Lines.{line_in};
+ghost use Rattle.pk_cert_states.specs.Lines.{own_pack, HasOne, line_in};
 ghost use Rattle.pk_cert_lines.specs.Symbols.{spaced, values_in};
 ghost use Rattle.pk_cert_lines.specs.Told.{IsToldIn, IsTextOf};
 
 use crate::told::{Told, put_bounds, put_value, told_in, value_in};
-use pk_cert_states::Order;
+use pk_cert_states::{Order, octagon_size};
 use pk_octmat::octagons_are_entries;
 use pk_state::{Frame, State};
 use pk_value::Value;
@@ -48,7 +48,7 @@ fn other_value(state: &State, old: &Value, x: usize) -> Option<Value>
     requires place { x < length state.now.layout.types }
     requires some { state.now.facts ≡ None → ⊥ }
     ensures { MatchOption result (known_in state.now.facts x ≡ Some old.now)
-        (λ v. (known_in state.now.facts x ≡ Some v) × IsValue (type_at state.now.layout x) v) }
+        (λ v. (known_in state.now.facts x ≡ Some v) × IsValue (type_at state.now.layout.types x) v) }
 {
     match state.value(x) {
         None => None,
@@ -171,28 +171,21 @@ fn is_same(a: Option<i128>, b: Option<i128>) -> bool
 // Whether two states have the same bounds.
 fn are_same(a: &State, b: &State, n: u32) -> bool
     requires few { n < 2 ^ 31 }
-    requires left { length a.now.layout.chosen ≡ n }
-    requires right { length b.now.layout.chosen ≡ n }
+    requires left { length (own_pack a.now.layout) ≡ n }
+    requires right { length (own_pack b.now.layout) ≡ n }
+    requires left_one { HasOne a.now.layout }
+    requires right_one { HasOne b.now.layout }
     ensures { result ≡ true → (i j : ℕ) → i < 2 * n → j < 2 * n →
-        bound_in a.now.facts i j ≡ bound_in b.now.facts i j }
+        entry_in a.now.facts 0 i j ≡ entry_in b.now.facts 0 i j }
 {
     for i in 0..2 * n {
         for j in 0..2 * n {
-            if !is_same(a.bound(i, j), b.bound(i, j)) {
+            if !is_same(a.entry(0, i, j), b.entry(0, i, j)) {
                 return false;
             }
         }
     }
     true
-}
-
-// How many variables the octagon is over.
-fn octagon_size(frame: &Frame) -> u32
-    ensures value { result ≡ length frame.now.chosen }
-    ensures few { result < 2 ^ 31 }
-{
-    frame.is_layout();
-    frame.octagon_len() as u32
 }
 
 // Writes the bounds in place, if they differ.

@@ -10,7 +10,7 @@ ghost use Rattle.pk_cert_lines.specs.Told.{IsToldIn, IsTextOf};
 use crate::guesses::symbols;
 use crate::parts::{apart, end};
 use crate::told::{Told, put_bounds, put_value};
-use pk_cert_states::{Order, first_value, octagon};
+use pk_cert_states::{Order, first_value, octagon, octagon_size};
 use pk_state::Frame;
 use std::alloc::{AllocError, Global};
 
@@ -53,14 +53,13 @@ fn read_bounds(
     requires many { length frame.now.types ≡ length order.now }
     ensures { OnOk result (IsTextOf order.now frame.now told.new) }
 {
-    frame.is_layout();
-    let n = frame.octagon_len();
-    let d = 2 * n;
+    let n = octagon_size(frame);
+    let d = 2 * n as usize;
     let bounds = symbols(alloc, bytes, d * d)?;
-    match octagon(alloc, &bounds, n as u32)? {
+    match octagon(alloc, &bounds, n)? {
         None => Ok(false),
         Some(octagon) => {
-            let state = told.state.copy(alloc)?.with_bounds(alloc, octagon)?;
+            let state = told.state.copy(alloc)?.with_bounds(alloc, 0, octagon)?;
             put_bounds(alloc, told, frame, order, state)?;
             Ok(true)
         }

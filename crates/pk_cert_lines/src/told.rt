@@ -2,17 +2,17 @@
 
 ghost use Rattle.std.specs.Prelude.{◌≡◌, ◌++◌, ◌∷◌, [], ◌+◌, ◌*◌, ◌<◌, ℕ, List, IfOk, OnOk, Some, None, length, slice_set, if◌then◌else◌, true};
 ghost use Rattle.pk_value.specs.Known.{Known};
-ghost use Rattle.pk_state.specs.Layouts.{type_at};
+ghost use Rattle.pk_octagons.specs.Values.{type_at, IsValue};
 ghost use Rattle.pk_state.specs.Facts.{Facts};
-ghost use Rattle.pk_state.specs.Changes.{IsValue, known_in, with_known};
-ghost use Rattle.pk_cert_states.specs.Lines.{four_of};
+ghost use Rattle.pk_state.specs.Changes.{known_in, with_known};
+ghost use Rattle.pk_cert_states.specs.Lines.{HasOne, four_of};
 ghost use Rattle.pk_cert_lines.specs.Symbols.{spaced, four_in, values_in, cells_in};
 ghost use Rattle.pk_cert_lines.specs.Told.{texts_at, parts_in, AreParts, IsToldIn, IsTextOf};
 
 use crate::parts::put;
 use crate::symbols::write_value;
 use crate::values::{write_bounds, write_one};
-use pk_cert_states::Order;
+use pk_cert_states::{Order, octagon_size};
 use pk_state::{Frame, State};
 use pk_value::Value;
 use std::alloc::{AllocError, Global};
@@ -74,14 +74,14 @@ fn add_bounds(
     state: &State,
 ) -> Result<(), AllocError>
     requires layout { state.now.layout ≡ frame.now }
+    requires one { HasOne frame.now }
     requires some { state.now.facts ≡ None → ⊥ }
     ensures text { OnOk result (text.new.items ≡ text.old.items ++ spaced (cells_in state.now.facts)) }
     ensures sizes { OnOk result (sizes.new.items ≡ sizes.old.items
         ++ length (spaced (cells_in state.now.facts)) ∷ []) }
 {
-    frame.is_layout();
     let start = text.len();
-    write_bounds(text, state, frame.octagon_len() as u32)?;
+    write_bounds(text, state, octagon_size(frame))?;
     let end = text.len();
     sizes.push(end - start)?;
     Ok(())
@@ -96,6 +96,7 @@ fn text_of(
 ) -> Result<(Vec<u8>, Vec<usize>), AllocError>
     requires layout { state.now.layout ≡ frame.now }
     requires many { length frame.now.types ≡ length order.now }
+    requires one { HasOne frame.now }
     requires some { state.now.facts ≡ None → ⊥ }
     ensures { IfOk result (λ p. (f : Facts) → state.now.facts ≡ Some f →
         AreParts (parts_in order.now f) p.0.items p.1.items) }
@@ -145,6 +146,7 @@ pub(crate) fn told_in<'f>(
 ) -> Result<Told<'f>, AllocError>
     requires layout { state.layout ≡ frame.now }
     requires many { length frame.now.types ≡ length order.now }
+    requires one { HasOne frame.now }
     ensures { IfOk result (λ t. (t.state ≡ state.entry) × IsToldIn order.now frame.now t) }
 {
     if state.is_bottom() {
@@ -177,12 +179,12 @@ fn value_text(alloc: Global, value: &Value) -> Result<Vec<u8>, AllocError>
 // The bounds of a state's octagon.
 fn bounds_text(alloc: Global, frame: &Frame, state: &State) -> Result<Vec<u8>, AllocError>
     requires layout { state.now.layout ≡ frame.now }
+    requires one { HasOne frame.now }
     requires some { state.now.facts ≡ None → ⊥ }
     ensures { IfOk result (λ v. v.items ≡ spaced (cells_in state.now.facts)) }
 {
-    frame.is_layout();
     let mut text = Vec::new(alloc);
-    write_bounds(&mut text, state, frame.octagon_len() as u32)?;
+    write_bounds(&mut text, state, octagon_size(frame))?;
     Ok(text)
 }
 
@@ -214,7 +216,7 @@ fn with_value<'f>(
     value: Value,
 ) -> Result<State<'f>, AllocError>
     requires place { x < length state.now.layout.types }
-    requires value { IsValue (type_at state.now.layout x) value }
+    requires value { IsValue (type_at state.now.layout.types x) value }
     ensures layout { IfOk result (λ s. s.layout ≡ state.now.layout) }
     ensures facts { IfOk result (λ s. s.facts ≡ with_known state.now.facts x value) }
 {
@@ -233,7 +235,7 @@ pub(crate) fn put_value(
     requires told { IsTextOf order.now frame.now told.old }
     requires many { length frame.now.types ≡ length order.now }
     requires place { x < length order.now }
-    requires value { IsValue (type_at frame.now x) value }
+    requires value { IsValue (type_at frame.now.types x) value }
     ensures told { OnOk result (IsTextOf order.now frame.now told.new) }
     ensures state { OnOk result (told.new.state.facts ≡ with_known told.old.state.facts x value) }
 {

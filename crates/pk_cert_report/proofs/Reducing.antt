@@ -1,5 +1,5 @@
 -- Cells that were read of bytes, as states.
-use Rattle.std.specs.Prelude.{◌≡◌, ℕ, zero, suc, ◌<◌, ◌≤◌, ◌^◌, true, List, [], ◌∷◌, length, map, take, All, None}
+use Rattle.std.specs.Prelude.{◌≡◌, ℕ, zero, suc, ◌<◌, ◌≤◌, ◌^◌, true, false, List, [], ◌∷◌, length, map, take, All, None}
 use Rattle.std.specs.List.{list_all}
 use Rattle.std.specs.Str.{IsAscii, IsUtf8}
 use Rattle.std.proofs.Common.{arith, refl, sym, ap, subst, ◌∙◌, Result, IfOk}
@@ -11,10 +11,11 @@ use Rattle.std.proofs.lemmas.Str.{IsUtf8-from_ascii}
 use Rattle.std.proofs.lemmas.Str.Ascii.{IsAscii-nil}
 use Rattle.pk_lex.specs.Bytes.{is_letter, is_part}
 use Rattle.pk_lex.specs.Words.{is_name}
-use Rattle.pk_graph.specs.Graphs.{GraphOf}
+use Rattle.pk_graph.specs.Graphs.{GraphOf, kinds_of}
 use Rattle.pk_state.specs.Layouts.{Layout}
 use Rattle.pk_state.specs.Facts.{Stated}
-use Rattle.pk_transfer.specs.Graphs.{layout_of}
+use Rattle.pk_transfer.specs.Graphs.{GraphsAreOver, layout_of}
+use Rattle.pk_transfer.specs.Trees.{IsOver}
 use Rattle.pk_phases.specs.declared.equations.Cell.{Cell}
 use Rattle.pk_phases.specs.Equations.{value_of}
 use Rattle.pk_analysis.specs.declared.analysis.Options.{Options}
@@ -46,12 +47,12 @@ module _ (g : GraphOf) (h : HeadOf) (bytes : List ℕ) (cells : List (Cell State
   states_are y n states same size e =
       e ∙ ap (λ (z : Layout). map (reduced_over z) (take n cells)) same ∙ ap (map (reduced_over (layout_of g h.oct))) (take_all n cells (omega (arith, many_cells, size)))
 
-  pub states_over : (o : Options) (states : List Stated) → o.oct ≡ h.oct → states ≡ reduced_states (layout_of g h.oct) cells → AreOver g o states
-  states_over o states same e = record {
+  pub states_over : (states : List Stated) → GraphsAreOver → states ≡ reduced_states (layout_of g h.oct) cells → AreOver g states
+  states_over states law e = record {
     size = ap (λ (ss : List Stated). length ss) e ∙ length-map cells (reduced_over (layout_of g h.oct)) ∙ many_cells;
     each =
-        subst (All (λ (s : Stated). s.layout ≡ layout_of g o.oct)) (sym e)
-        (All-map (λ (s : Stated). s.layout ≡ layout_of g o.oct) (reduced_over (layout_of g h.oct)) cells (λ k d below. ap (layout_of g) (sym same)));
+        subst (All (λ (s : Stated). IsOver (kinds_of g) s.layout)) (sym e)
+        (All-map (λ (s : Stated). IsOver (kinds_of g) s.layout) (reduced_over (layout_of g h.oct)) cells (λ k d below. law.over g h.oct));
   }
 
 -- what is told by states is told by the same ones
@@ -62,10 +63,10 @@ pub counted_over : {X E : Type 0} (f : X → ℕ) (j : GraphOf) (r : Result X E)
 counted_over f j r a b same h = subst (λ (ss : List Stated). IfOk r (λ x. f x ≡ unknown_in (verdicts_of j ss))) same h
 
 -- a certificate that would be too long
-pub overlong_so : (j : GraphOf) (text entry name : List ℕ) (o : Options) (most : ℕ) (cells : List (Cell Stated)) → name ≡ entry → HasGraph text entry j → AreRawCells j o most cells → most_bytes < length (cells_text j (head_of text o.oct name) cells) → IsOverlong text entry o most
-overlong_so j text entry name o most cells same has are many = record {
+pub overlong_so : (j : GraphOf) (text entry name : List ℕ) (o : Options) (most : ℕ) (cells : List (Cell Stated)) → name ≡ entry → o.packs ≡ false → HasGraph text entry j → AreRawCells j o most cells → most_bytes < length (cells_text j (head_of text o.oct name) cells) → IsOverlong text entry o most
+overlong_so j text entry name o most cells same one has are many = record {
   bytes = cells_text j (head_of text o.oct entry) cells;
-  certificate = record { graph = j; has_graph = has; cells = cells; are = are; told = refl };
+  certificate = record { one_octagon = one; graph = j; has_graph = has; cells = cells; are = are; told = refl };
   many = subst (λ (e : List ℕ). most_bytes < length (cells_text j (head_of text o.oct e) cells)) same many;
 }
 

@@ -1,5 +1,5 @@
 -- The certificate of a text, or why there is none.
-use Rattle.std.specs.Prelude.{◌≡◌, ◌⊎◌, ℕ, ◌<◌, ◌≤◌, List, length}
+use Rattle.std.specs.Prelude.{◌≡◌, ◌⊎◌, ℕ, ◌<◌, ◌≤◌, false, List, length}
 use Rattle.pk_graph.specs.Graphs.{GraphOf}
 use Rattle.pk_state.specs.Facts.{Stated}
 use Rattle.pk_phases.specs.declared.equations.Cell.{Cell}
@@ -11,8 +11,9 @@ use Rattle.pk_text_graph.specs.Graphs.{HasGraph}
 use Rattle.pk_cert_report.specs.Causes.{IsUnanalysed}
 use Rattle.pk_cert_cells.specs.Cells.{head_of, cells_text, most_bytes}
 
--- what the iteration over a text's graph leaves at its points, as a certificate
+-- what the iteration over a text's graph, with one octagon, leaves at its points, as a certificate
 pub record IsCertificateOf (text entry : List ℕ) (o : Options) (most : ℕ) (bytes : List ℕ) : Type 0 where
+  pub one_octagon : o.packs ≡ false
   pub graph : GraphOf
   pub has_graph : HasGraph text entry graph
   pub cells : List (Cell Stated)

@@ -14,7 +14,7 @@ ghost use Rattle.pk_cert_cells.specs.Reading.{AreReadCells};
 ghost use Rattle.pk_cert_check.specs.Checked.{HoldStates, IsChecked};
 ghost use Rattle.pk_cert_report.specs.Checked.{IsValid, IsInvalid, reduced_states, status_of_unfit};
 
-use pk_analysis::{Analysis, Options, States};
+use pk_analysis::{Analysis, States};
 use pk_cert::{Head, read_head};
 use pk_cert_cells::{Unfit, read_cells};
 use pk_cert_check::first_failing;
@@ -27,7 +27,7 @@ use pk_phases::Cell;
 use pk_state::{Frame, State};
 use pk_status::Status;
 use pk_text_graph::{graph_of_text, graphs_are_few};
-use pk_transfer::frame;
+use pk_transfer::{frame, graphs_law};
 use std::alloc::{AllocError, Global};
 use std::sync::Arc;
 
@@ -61,16 +61,12 @@ fn verdicts_by<'f>(
     ensures counted { IfOk result (λ r. r.1 ≡ unknown_in (verdicts_of (graph_view graph.now)
         (reduced_states (layout_of (graph_view graph.now) head.now.oct) cells.entry.cells))) }
 {
+    graphs_law();
     read_cells_hold_states();
     let oct = head.oct as usize;
     let analysis = Analysis::of_points(alloc, graph, frame, oct)?;
     let states = States::of(&analysis, cells);
-    let options = Options {
-        delay: 0,
-        narrow: 0,
-        oct,
-    };
-    checked_of(alloc, graph, options, &states)
+    checked_of(alloc, graph, &states)
 }
 
 // The first point whose equation isn't solved by cells, if there is one, and cells that hold the same states.

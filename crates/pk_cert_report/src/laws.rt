@@ -6,7 +6,7 @@ ghost use Rattle.pk_cert_report.specs.Laws.{OneAnswerOfChecks, OneCertificate};
 use pk_cert::{first_wrong_is_one, heads_are_told};
 use pk_cert_cells::one_reading;
 use pk_cert_check::one_check;
-use pk_solver::raw_cells_are_determined;
+use pk_solver::{raw_cells_are_determined, states_are_determined};
 use pk_text_graph::{graph_is_determined, graphs_are_well_made};
 use pk_transfer::graphs_law;
 
@@ -15,6 +15,7 @@ pub fn one_cause()
     ensures { OneCause }
 {
     graph_is_determined();
+    states_are_determined();
 }
 
 /// A text has at most one certificate, or one cause why it has none, and not both.
@@ -23,6 +24,7 @@ pub fn one_certificate()
 {
     graph_is_determined();
     raw_cells_are_determined();
+    states_are_determined();
 }
 
 /// A check of bytes tells one thing, or there is one cause why it tells nothing, and not both.

@@ -13,9 +13,8 @@ use Rattle.pk_value.specs.Known.{Known, any_of}
 use Rattle.pk_cert.specs.declared.rows.Symbol.{Symbol}
 use Rattle.pk_cert.specs.declared.rows.Symbol.TheVariants.{Star, Number, Far}
 use Rattle.pk_cert.specs.Rows.{kept}
-use Rattle.pk_state.specs.Layouts.{Layout, type_at}
-use Rattle.pk_state.specs.Facts.{known_at}
-use Rattle.pk_state.specs.Changes.{IsValue}
+use Rattle.pk_octagons.specs.Values.{type_at, known_at, IsValue}
+use Rattle.pk_state.specs.Layouts.{Layout}
 use Rattle.pk_cert_states.specs.Lines.{four_of, fours_at}
 use Rattle.pk_cert_states.specs.Parts.{number_of, slot_at, IsOrder, IsFirst, AreIn, AreFirst, AreFilledTo, AreFilled}
 
@@ -135,18 +134,18 @@ four_read t a b c d rest symbols lo hi m r k s ea eb ec ed h =
 pub filled_begun : (l : Layout) (slots : List ℕ) (symbols : List Symbol) (vs : List Known) → AreIn l vs → AreFilledTo l slots symbols symbols vs 0
 filled_begun l slots symbols vs h = record { values = h; told = refl }
 
-in_set : (l : Layout) (vs : List Known) (j : ℕ) (v : Known) → AreIn l vs → j < length l.types → IsValue (type_at l j) v → AreIn l (slice_set vs j v)
+in_set : (l : Layout) (vs : List Known) (j : ℕ) (v : Known) → AreIn l vs → j < length l.types → IsValue (type_at l.types j) v → AreIn l (slice_set vs j v)
 in_set l vs j v h p is = record {
   size = length-set vs j v ∙ h.size;
   each = λ y q. elim (cases_eq y j) [
-    | inl s ↦ subst (λ (k : Known). IsValue (type_at l y) k) (sym (get_or-set_at vs j y v (any_of Int) s (omega (arith, p, h.size)))) (subst (λ (z : ℕ). IsValue (type_at l z) v) (sym s) is)
-    | inr s ↦ subst (λ (k : Known). IsValue (type_at l y) k) (sym (get_or-set_other vs j y v (any_of Int) s)) (h.each y q)
+    | inl s ↦ subst (λ (k : Known). IsValue (type_at l.types y) k) (sym (get_or-set_at vs j y v (any_of Int) s (omega (arith, p, h.size)))) (subst (λ (z : ℕ). IsValue (type_at l.types z) v) (sym s) is)
+    | inr s ↦ subst (λ (k : Known). IsValue (type_at l.types y) k) (sym (get_or-set_other vs j y v (any_of Int) s)) (h.each y q)
   ];
 }
 
 -- a value is written
 pub filled_on : (l : Layout) (slots : List ℕ) (symbols rest behind : List Symbol) (vs : List Known) (p j : ℕ) (v : Known) → IsOrder slots → length l.types ≡ length slots → AreFilledTo l slots symbols rest vs p → p < length slots → j ≡ slot_at slots p
-    → IsValue (type_at l j) v → rest ≡ map kept (four_of v) ++ behind → AreFilledTo l slots symbols behind (slice_set vs j v) (p + 1)
+    → IsValue (type_at l.types j) v → rest ≡ map kept (four_of v) ++ behind → AreFilledTo l slots symbols behind (slice_set vs j v) (p + 1)
 filled_on l slots symbols rest behind vs p j v order same h below at is told =
     let inside : j < length l.types = omega (arith, at, order.below p below, same) in
     let now = slice_set vs j v in
@@ -164,7 +163,7 @@ filled_on l slots symbols rest behind vs p j v order same h below at is told =
 
 -- where no value stands next, there are none of all slots
 pub filled_not : (l : Layout) (slots : List ℕ) (symbols rest : List Symbol) (vs ws : List Known) (p j : ℕ) → IsOrder slots → length l.types ≡ length slots → AreFilledTo l slots symbols rest vs p → p < length slots → j ≡ slot_at slots p
-    → ((k : Known) → IsFirst (type_at l j) rest k → ⊥) → AreFirst l slots symbols ws → ⊥
+    → ((k : Known) → IsFirst (type_at l.types j) rest k → ⊥) → AreFirst l slots symbols ws → ⊥
 filled_not l slots symbols rest vs ws p j order same h below at none f =
     let inside : j < length l.types = omega (arith, at, order.below p below, same) in
     let front = fours_at (take p slots) ws in

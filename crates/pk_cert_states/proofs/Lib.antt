@@ -1,5 +1,6 @@
 pub mod Ordering
 pub mod Fours
+pub mod Ones
 mod Filling
 mod Writing
 pub mod Reading

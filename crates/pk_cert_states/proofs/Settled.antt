@@ -1,5 +1,5 @@
 -- A line is that of a state, or of none.
-use Rattle.std.specs.Prelude.{◌≡◌, ℕ, ◌<◌, ℤ, List, ◌++◌, map, length, Option, Some, None}
+use Rattle.std.specs.Prelude.{◌≡◌, ℕ, ◌<◌, ℤ, List, [], ◌∷◌, ◌++◌, map, length, Option, Some, None}
 use Rattle.std.specs.List.{flat_map, range_with_len}
 use Rattle.std.proofs.Common.{arith, refl, sym, ap, subst, ◌∙◌, inl}
 use Rattle.std.proofs.lemmas.List.{length-map, get_or-map, ext_get_or}
@@ -9,16 +9,17 @@ use Rattle.pk_ctypes.specs.declared.types.IntType.TheVariants.{Int}
 use Rattle.pk_graph.specs.Graphs.{kinds_of}
 use Rattle.pk_value.specs.Known.{Known, any_of}
 use Rattle.pk_octmat.specs.Octagon.{IsOctagon}
-use Rattle.pk_state.specs.Layouts.{Layout, type_at}
-use Rattle.pk_state.specs.Facts.{Facts, AreValues, AreFacts, AreFactsIf, known_at}
-use Rattle.pk_state.specs.Changes.{IsValue}
+use Rattle.pk_octagons.specs.Values.{type_at, AreValues, known_at, IsValue}
+use Rattle.pk_state.specs.Layouts.{Layout}
+use Rattle.pk_state.specs.Facts.{Facts, AreFacts, AreFactsIf}
 use Rattle.pk_transfer.specs.Graphs.{layout_of}
-use Rattle.pk_cert_states.specs.Lines.{line_slots, four_of, fours_at, symbols_in, line_of, IsState}
+use Rattle.pk_cert_states.specs.Lines.{own_octagon, own_pack, HasOne, line_slots, four_of, fours_at, symbols_in, line_of, IsState}
 use Rattle.pk_cert_states.specs.Parts.{slot_at, IsOrder, AreIn}
 use Rattle.pk_cert_states.specs.Laws.{EveryLineIsSettled}
 use Rattle.pk_cert_states.proofs.Ordering.{where_in, where_is, where_below, line_order}
 use Rattle.pk_cert_states.proofs.Reading.{values_in}
 use Rattle.pk_cert_states.proofs.Telling.{as_many}
+use Rattle.pk_cert_states.proofs.Ones.{one_of, one_stands}
 use Rattle.pk_cert_states.proofs.Told.{Told, told_as}
 use Rattle.pk_cert_states.proofs.ToldValues.{AreOf, HaveValues, told_values, many_of, value_of, values_of}
 use Rattle.pk_cert_states.proofs.ToldBounds.{told_octagon}
@@ -50,7 +51,7 @@ record IsOf (l : Layout) (slots : List ℕ) (zs : List (Option ℤ)) : Type 0 wh
   are : AreFacts l facts
   told : zs ≡ symbols_in slots facts
 
-are_values : (l : Layout) (vs : List Known) → AreIn l vs → AreValues l vs
+are_values : (l : Layout) (vs : List Known) → AreIn l vs → AreValues l.types vs
 are_values l vs h = record {
   size = h.size;
   inside = λ j p. (h.each j (omega (arith, p, h.size))).inside;
@@ -58,44 +59,44 @@ are_values l vs h = record {
   classes = λ j p. (h.each j (omega (arith, p, h.size))).class;
 }
 
-module _ (l : Layout) (slots : List ℕ) (order : IsOrder slots) (same : length l.types ≡ length slots) where
+module _ (l : Layout) (slots : List ℕ) (one : HasOne l) (order : IsOrder slots) (same : length l.types ≡ length slots) where
   abbrev Bounds : List (Option ℤ) → Type 0
-  Bounds cells = IsOctagon record { vars = length l.chosen; cells = cells }
+  Bounds cells = IsOctagon record { vars = length (own_pack l); cells = cells }
 
   abbrev Parts : List (Option ℤ) → Type 0
-  Parts = HaveValues (map (type_at l) slots) Bounds
+  Parts = HaveValues (map (type_at l.types) slots) Bounds
 
-  restored_in : (ws : List Known) → AreOf (map (type_at l) slots) ws → AreIn l (restored slots ws)
+  restored_in : (ws : List Known) → AreOf (map (type_at l.types) slots) ws → AreIn l (restored slots ws)
   restored_in ws h = record {
     size = restored_many slots ws ∙ sym same;
     each = λ j p.
         let below : j < length slots = omega (arith, p, same) in
         let there = where_below slots j order below in
-        subst (λ (k : Known). IsValue (type_at l j) k) (sym (restored_at slots ws j below))
-        (subst (λ (i : ℕ). IsValue (type_at l i) (known_at ws (where_in slots j))) there.1 (value_of l slots ws h (where_in slots j) there.0));
+        subst (λ (k : Known). IsValue (type_at l.types j) k) (sym (restored_at slots ws j below))
+        (subst (λ (i : ℕ). IsValue (type_at l.types i) (known_at ws (where_in slots j))) there.1 (value_of l slots ws h (where_in slots j) there.0));
   }
 
   of_parts : (zs : List (Option ℤ)) → Parts zs → IsOf l slots zs
   of_parts zs p =
-      let many : length p.values ≡ length slots = many_of (map (type_at l) slots) p.values p.are ∙ length-map slots (type_at l) in
+      let many : length p.values ≡ length slots = many_of (map (type_at l.types) slots) p.values p.are ∙ length-map slots (type_at l.types) in
       let numbers : flat_map four_of p.values ≡ fours_at slots (restored slots p.values) = ap (flat_map four_of) (sym (back_again slots p.values order many)) ∙ fours_mapped slots (restored slots p.values) in
       record {
-        facts = record { values = restored slots p.values; octagon = record { vars = length l.chosen; cells = p.rest } };
-        are = record { values = are_values l (restored slots p.values) (restored_in p.values p.are); vars = refl; octagon = p.more };
+        facts = record { values = restored slots p.values; octagons = record { vars = length (own_pack l); cells = p.rest } ∷ [] };
+        are = record { values = are_values l (restored slots p.values) (restored_in p.values p.are); octagons = one_stands l (record { vars = length (own_pack l); cells = p.rest }) one refl p.more };
         told = p.told ∙ ap (λ r. r ++ p.rest) numbers;
       }
 
   parts_of : (zs : List (Option ℤ)) → IsOf l slots zs → Parts zs
   parts_of zs h = record {
     values = map (known_at h.facts.values) slots;
-    rest = h.facts.octagon.cells;
+    rest = (own_octagon h.facts).cells;
     are = values_of l slots h.facts.values (values_in l h.facts.values h.are.values) (λ p q. omega (arith, order.below p q, same));
-    told = h.told ∙ ap (λ r. r ++ h.facts.octagon.cells) (sym (fours_mapped slots h.facts.values));
-    more = subst (λ (n : ℕ). IsOctagon record { vars = n; cells = h.facts.octagon.cells }) h.are.vars h.are.octagon;
+    told = h.told ∙ ap (λ r. r ++ (own_octagon h.facts).cells) (sym (fours_mapped slots h.facts.values));
+    more = let own = one_of l h.facts one h.are in subst (λ (n : ℕ). IsOctagon record { vars = n; cells = (own_octagon h.facts).cells }) own.vars own.octagon;
   }
 
   told_symbols : (zs : List (Option ℤ)) → Told (IsOf l slots zs)
-  told_symbols zs = told_as (Parts zs) (IsOf l slots zs) (of_parts zs) (parts_of zs) (told_values (map (type_at l) slots) Bounds (told_octagon (length l.chosen)) zs)
+  told_symbols zs = told_as (Parts zs) (IsOf l slots zs) (of_parts zs) (parts_of zs) (told_values (map (type_at l.types) slots) Bounds (told_octagon (length (own_pack l))) zs)
 
 -- ---- the law
 
@@ -104,7 +105,7 @@ every_line_is_settled g n None = inl (None, tt, refl)
 every_line_is_settled g n (Some zs) =
     told_as (IsOf (layout_of g n) (line_slots (kinds_of g)) zs) (IsState (kinds_of g) (layout_of g n) (Some zs))
     (λ h. (Some h.facts, h.are, ap (λ (s : List (Option ℤ)). Some s) h.told)) (λ s. back s.0 s.1 s.2)
-    (told_symbols (layout_of g n) (line_slots (kinds_of g)) (line_order (kinds_of g)) (as_many g n) zs)
+    (told_symbols (layout_of g n) (line_slots (kinds_of g)) refl (line_order (kinds_of g)) (as_many g n) zs)
   where
     back : (f : Option Facts) → AreFactsIf (layout_of g n) f → Some zs ≡ line_of (kinds_of g) f → IsOf (layout_of g n) (line_slots (kinds_of g)) zs
     back None are e = absurd (cc)

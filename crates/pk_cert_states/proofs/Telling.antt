@@ -14,15 +14,17 @@ use Rattle.pk_octmat.specs.Bounds.{IsNear}
 use Rattle.pk_octmat.specs.Octagon.{Octagon, IsOctagon, cell_at}
 use Rattle.pk_octmat.proofs.Cells.{cell_in}
 use Rattle.pk_state.specs.Layouts.{Layout}
-use Rattle.pk_state.specs.Facts.{Facts, AreFacts, AreFactsIf, known_at}
+use Rattle.pk_octagons.specs.Values.{known_at}
+use Rattle.pk_state.specs.Facts.{Facts, AreFacts, AreFactsIf}
 use Rattle.pk_transfer.specs.Graphs.{layout_of}
 use Rattle.pk_cert.specs.declared.rows.Symbol.{Symbol}
 use Rattle.pk_cert.specs.declared.rows.Symbol.TheVariants.{Star, Number, Far}
 use Rattle.pk_cert.specs.Rows.{IsShort, IsSymbol, EachOf, AreEach, Line, IsLine, seen, kept, kept_line, seen_line}
-use Rattle.pk_cert_states.specs.Lines.{line_slots, four_of, fours_at, symbols_in, symbols_of, line_of, shape_of}
+use Rattle.pk_cert_states.specs.Lines.{own_octagon, own_pack, HasOne, line_slots, four_of, fours_at, symbols_in, symbols_of, line_of, shape_of}
 use Rattle.pk_cert_states.specs.Parts.{slot_at, IsOrder}
 use Rattle.pk_cert_states.specs.Laws.{FactsHaveLines}
 use Rattle.pk_cert_states.proofs.Ordering.{line_order, slots_counted}
+use Rattle.pk_cert_states.proofs.Ones.{one_of}
 use Rattle.pk_cert_states.proofs.Fours.{fours_many, fours_length, parted_same, same_four}
 
 -- ---- numbers below 2^127
@@ -124,22 +126,23 @@ values_small l f h x p = let inside = h.values.inside x p in let class = h.value
 all_there : (l : Layout) (slots : List ℕ) (f : Facts) → IsOrder slots → length l.types ≡ length slots → AreFacts l f → (p : ℕ) → p < length slots → slot_at slots p < length f.values
 all_there l slots f order same h p q = omega (arith, order.below p q, h.values.size, same)
 
-facts_small : (l : Layout) (slots : List ℕ) (f : Facts) → IsOrder slots → length l.types ≡ length slots → AreFacts l f → AreSmall (symbols_in slots f)
-facts_small l slots f order same h =
-    small_joined (fours_at slots f.values) f.octagon.cells (fours_small slots f.values (values_small l f h) (all_there l slots f order same h)) (cells_small f.octagon h.octagon)
+facts_small : (l : Layout) (slots : List ℕ) (f : Facts) → HasOne l → IsOrder slots → length l.types ≡ length slots → AreFacts l f → AreSmall (symbols_in slots f)
+facts_small l slots f one order same h =
+    small_joined (fours_at slots f.values) (own_octagon f).cells (fours_small slots f.values (values_small l f h) (all_there l slots f order same h)) (cells_small (own_octagon f) (one_of l f one h).octagon)
 
 -- the line has as many symbols as its shape
-facts_line : (l : Layout) (slots : List ℕ) (f : Facts) → IsOrder slots → length l.types ≡ length slots → AreFacts l f
-    → AreEach (4 * length slots + 2 * length l.chosen * (2 * length l.chosen)) (IsSymbol (2 * length l.chosen * (2 * length l.chosen))) (symbols_in slots f)
-facts_line l slots f order same h =
+facts_line : (l : Layout) (slots : List ℕ) (f : Facts) → HasOne l → IsOrder slots → length l.types ≡ length slots → AreFacts l f
+    → AreEach (4 * length slots + 2 * length (own_pack l) * (2 * length (own_pack l))) (IsSymbol (2 * length (own_pack l) * (2 * length (own_pack l)))) (symbols_in slots f)
+facts_line l slots f one order same h =
     let numbers = fours_at slots f.values in
-    let cells = f.octagon.cells in
-    let bounds : ℕ = 2 * length l.chosen * (2 * length l.chosen) in
-    let many : length cells ≡ 2 * length l.chosen * (2 * length l.chosen) = h.octagon.whole.size ∙ ap (λ (n : ℕ). 2 * n * (2 * n)) h.vars in
+    let cells = (own_octagon f).cells in
+    let own = one_of l f one h in
+    let bounds : ℕ = 2 * length (own_pack l) * (2 * length (own_pack l)) in
+    let many : length cells ≡ 2 * length (own_pack l) * (2 * length (own_pack l)) = own.octagon.whole.size ∙ ap (λ (n : ℕ). 2 * n * (2 * n)) own.vars in
     record {
       size = omega (arith, length-append numbers cells, many, fours_many slots f.values);
       each = numbers_each bounds numbers cells (fours_small slots f.values (values_small l f h) (all_there l slots f order same h)) (fours_numbers slots f.values)
-          (bounds_each bounds cells (omega (arith, many)) (cells_small f.octagon h.octagon));
+          (bounds_each bounds cells (omega (arith, many)) (cells_small (own_octagon f) own.octagon));
     }
 
 -- ---- what a reader keeps
@@ -201,37 +204,45 @@ values_once slots vs ws order p q e =
     subst (λ (i : ℕ). known_at vs i ≡ known_at ws i) at.2 (known_once slots vs ws e at.0 at.1))
 
 abbrev facts_with : List Known → ℕ → List (Option ℤ) → Facts
-facts_with vs n cells = record { values = vs; octagon = record { vars = n; cells = cells } }
+facts_with vs n cells = record { values = vs; octagons = record { vars = n; cells = cells } ∷ [] }
 
-facts_once : (l : Layout) (slots : List ℕ) (f h : Facts) → IsOrder slots → length l.types ≡ length slots → AreFacts l f → AreFacts l h → symbols_in slots f ≡ symbols_in slots h → f ≡ h
-facts_once l slots f h order same p q e =
-    let parted = parted_same (fours_at slots f.values) (fours_at slots h.values) f.octagon.cells h.octagon.cells (fours_length slots f.values h.values) e in
-    ap (λ (vs : List Known). facts_with vs f.octagon.vars f.octagon.cells) (values_once slots f.values h.values order (p.values.size ∙ same) (q.values.size ∙ same) parted.0)
-    ∙ ap (λ (n : ℕ). facts_with h.values n f.octagon.cells) (p.vars ∙ sym q.vars)
-    ∙ ap (λ (cells : List (Option ℤ)). facts_with h.values h.octagon.vars cells) parted.1
+-- facts with one octagon are its bounds and the values
+facts_are : (f : Facts) → f.octagons ≡ own_octagon f ∷ [] → f ≡ facts_with f.values (own_octagon f).vars (own_octagon f).cells
+facts_are f e = ap (λ (ms : List Octagon). let g : Facts = record { values = f.values; octagons = ms } in g) e
+
+facts_once : (l : Layout) (slots : List ℕ) (f h : Facts) → HasOne l → IsOrder slots → length l.types ≡ length slots → AreFacts l f → AreFacts l h → symbols_in slots f ≡ symbols_in slots h → f ≡ h
+facts_once l slots f h one order same p q e =
+    let left = one_of l f one p in
+    let right = one_of l h one q in
+    let parted = parted_same (fours_at slots f.values) (fours_at slots h.values) (own_octagon f).cells (own_octagon h).cells (fours_length slots f.values h.values) e in
+    facts_are f left.only
+    ∙ ap (λ (vs : List Known). facts_with vs (own_octagon f).vars (own_octagon f).cells) (values_once slots f.values h.values order (p.values.size ∙ same) (q.values.size ∙ same) parted.0)
+    ∙ ap (λ (n : ℕ). facts_with h.values n (own_octagon f).cells) (left.vars ∙ sym right.vars)
+    ∙ ap (λ (cells : List (Option ℤ)). facts_with h.values (own_octagon h).vars cells) parted.1
+    ∙ sym (facts_are h right.only)
 
 -- ---- the law
 
-pub has_line : (l : Layout) (ks : Kinds) (f : Option Facts) → length l.types ≡ length (line_slots ks) → AreFactsIf l f → IsLine (shape_of ks l) (line_of ks f)
-has_line l ks None same h = tt
-has_line l ks (Some f) same h = facts_line l (line_slots ks) f (line_order ks) same h
+pub has_line : (l : Layout) (ks : Kinds) (f : Option Facts) → HasOne l → length l.types ≡ length (line_slots ks) → AreFactsIf l f → IsLine (shape_of ks l) (line_of ks f)
+has_line l ks None one same h = tt
+has_line l ks (Some f) one same h = facts_line l (line_slots ks) f one (line_order ks) same h
 
-pub is_kept : (l : Layout) (ks : Kinds) (f : Option Facts) → length l.types ≡ length (line_slots ks) → AreFactsIf l f → seen_line (line_of ks f) ≡ kept_line (line_of ks f)
-is_kept l ks None same h = refl
-is_kept l ks (Some f) same h = ap (λ (s : List Symbol). Some s) (all_seen (symbols_of ks f) (facts_small l (line_slots ks) f (line_order ks) same h))
+pub is_kept : (l : Layout) (ks : Kinds) (f : Option Facts) → HasOne l → length l.types ≡ length (line_slots ks) → AreFactsIf l f → seen_line (line_of ks f) ≡ kept_line (line_of ks f)
+is_kept l ks None one same h = refl
+is_kept l ks (Some f) one same h = ap (λ (s : List Symbol). Some s) (all_seen (symbols_of ks f) (facts_small l (line_slots ks) f one (line_order ks) same h))
 
-pub is_only : (l : Layout) (ks : Kinds) (f h : Option Facts) → length l.types ≡ length (line_slots ks) → AreFactsIf l f → AreFactsIf l h → line_of ks f ≡ line_of ks h → f ≡ h
-is_only l ks None None same p q e = refl
-is_only l ks None (Some h) same p q e = absurd (cc)
-is_only l ks (Some f) None same p q e = absurd (cc)
-is_only l ks (Some f) (Some h) same p q e = let told : symbols_of ks f ≡ symbols_of ks h = cc in ap (λ (x : Facts). Some x) (facts_once l (line_slots ks) f h (line_order ks) same p q told)
+pub is_only : (l : Layout) (ks : Kinds) (f h : Option Facts) → HasOne l → length l.types ≡ length (line_slots ks) → AreFactsIf l f → AreFactsIf l h → line_of ks f ≡ line_of ks h → f ≡ h
+is_only l ks None None one same p q e = refl
+is_only l ks None (Some h) one same p q e = absurd (cc)
+is_only l ks (Some f) None one same p q e = absurd (cc)
+is_only l ks (Some f) (Some h) one same p q e = let told : symbols_of ks f ≡ symbols_of ks h = cc in ap (λ (x : Facts). Some x) (facts_once l (line_slots ks) f h one (line_order ks) same p q told)
 
 pub as_many : (g : GraphOf) (n : ℕ) → length (layout_of g n).types ≡ length (line_slots (kinds_of g))
 as_many g n = slots_counted (kinds_of g)
 
 pub facts_have_lines : FactsHaveLines
 facts_have_lines g n f h = record {
-  line = has_line (layout_of g n) (kinds_of g) f (as_many g n) h;
-  kept = is_kept (layout_of g n) (kinds_of g) f (as_many g n) h;
-  only = λ k q e. is_only (layout_of g n) (kinds_of g) f k (as_many g n) h q e;
+  line = has_line (layout_of g n) (kinds_of g) f refl (as_many g n) h;
+  kept = is_kept (layout_of g n) (kinds_of g) f refl (as_many g n) h;
+  only = λ k q e. is_only (layout_of g n) (kinds_of g) f k refl (as_many g n) h q e;
 }

@@ -8,9 +8,8 @@ use Rattle.pk_ctypes.specs.Types.{InType}
 use Rattle.pk_ctypes.proofs.Values.{cases_of_type}
 use Rattle.pk_congr.specs.Classes.{IsReduced}
 use Rattle.pk_value.specs.Known.{Known}
-use Rattle.pk_state.specs.Layouts.{Layout, type_at}
-use Rattle.pk_state.specs.Facts.{known_at}
-use Rattle.pk_state.specs.Changes.{IsValue}
+use Rattle.pk_octagons.specs.Values.{type_at, known_at, IsValue}
+use Rattle.pk_state.specs.Layouts.{Layout}
 use Rattle.pk_cert_states.specs.Lines.{four_of}
 use Rattle.pk_cert_states.specs.Parts.{slot_at, AreIn}
 use Rattle.pk_cert_states.proofs.Fours.{parted_same, same_four}
@@ -140,12 +139,12 @@ many_of [] (v ∷ vs) h = absurd h
 many_of (t ∷ ts) [] h = absurd h
 many_of (t ∷ ts) (v ∷ vs) h = omega (arith, many_of ts vs h.1)
 
-pub value_of : (l : Layout) (slots : List ℕ) (vs : List Known) → AreOf (map (type_at l) slots) vs → (p : ℕ) → p < length slots → IsValue (type_at l (slot_at slots p)) (known_at vs p)
+pub value_of : (l : Layout) (slots : List ℕ) (vs : List Known) → AreOf (map (type_at l.types) slots) vs → (p : ℕ) → p < length slots → IsValue (type_at l.types (slot_at slots p)) (known_at vs p)
 value_of l [] vs h p q = absurd (omega (arith, q))
 value_of l (j ∷ js) [] h p q = absurd h
 value_of l (j ∷ js) (v ∷ vs) h zero q = h.0
 value_of l (j ∷ js) (v ∷ vs) h (suc p) q = value_of l js vs h.1 p (omega (arith, q))
 
-pub values_of : (l : Layout) (slots : List ℕ) (vs : List Known) → AreIn l vs → ((p : ℕ) → p < length slots → slot_at slots p < length l.types) → AreOf (map (type_at l) slots) (map (known_at vs) slots)
+pub values_of : (l : Layout) (slots : List ℕ) (vs : List Known) → AreIn l vs → ((p : ℕ) → p < length slots → slot_at slots p < length l.types) → AreOf (map (type_at l.types) slots) (map (known_at vs) slots)
 values_of l [] vs h there = tt
 values_of l (j ∷ js) vs h there = (h.each j (there 0 (omega arith)), values_of l js vs h (λ p q. there (suc p) (omega (arith, q))))

@@ -1,13 +1,28 @@
--- What the lines of a certificate say of a graph's variables and of its octagon.
+-- What the lines of a certificate say of a graph's variables and of the one octagon over them.
 use Rattle.std.specs.Prelude.{◌≡◌, ◌+◌, ◌*◌, ℕ, suc, ℤ, List, [], ◌∷◌, ◌++◌, length, Option, Some, None}
 use Rattle.std.specs.List.{flat_map, range_with_len}
 use Rattle.pk_graph.specs.Kinds.{Kinds}
 use Rattle.pk_value.specs.Known.{Known}
+use Rattle.pk_octmat.specs.Octagon.{Octagon}
+use Rattle.pk_octagons.specs.Packs.{pack_at}
+use Rattle.pk_octagons.specs.Values.{known_at}
+use Rattle.pk_octagons.specs.Octagons.{octagon_at}
 use Rattle.pk_state.specs.Layouts.{Layout}
-use Rattle.pk_state.specs.Facts.{Facts, AreFactsIf, known_at}
+use Rattle.pk_state.specs.Facts.{Facts, AreFactsIf}
 use Rattle.pk_transfer.specs.Slots.{further_count}
 use Rattle.pk_cert.specs.declared.rows.Shape.{Shape}
 use Rattle.pk_cert.specs.Rows.{Line}
+
+-- the one octagon of facts, and its variables
+abbrev pub own_octagon : Facts → Octagon
+own_octagon f = octagon_at f.octagons 0
+
+abbrev pub own_pack : Layout → List ℕ
+own_pack l = pack_at l.packs 0
+
+-- there is just one
+abbrev pub HasOne : Layout → Type 0
+HasOne l = l.packs ≡ own_pack l ∷ []
 
 -- the slot of variable x, if it is a scalar
 abbrev pub scalar_slot : Option ℕ → ℕ → List ℕ
@@ -43,7 +58,7 @@ fours_at slots vs = flat_map (λ j. four_of (known_at vs j)) slots
 
 -- the numbers of the values in this order, and the octagon's bounds row by row
 abbrev pub symbols_in : List ℕ → Facts → List (Option ℤ)
-symbols_in slots f = fours_at slots f.values ++ f.octagon.cells
+symbols_in slots f = fours_at slots f.values ++ (own_octagon f).cells
 
 abbrev pub line_in : List ℕ → Option Facts → Line
 line_in slots None = None
@@ -59,7 +74,7 @@ line_of ks = line_in (line_slots ks)
 abbrev pub shape_of : Kinds → Layout → Shape
 shape_of ks l = record {
   numbers = 4 * length (line_slots ks);
-  bounds = 2 * length l.chosen * (2 * length l.chosen);
+  bounds = 2 * length (own_pack l) * (2 * length (own_pack l));
 }
 
 -- the line is that of facts of the layout, or `bot`

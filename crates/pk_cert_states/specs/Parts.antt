@@ -1,5 +1,5 @@
 -- The parts of a line, as they are read.
-use Rattle.std.specs.Prelude.{◌≡◌, ◌⊎◌, ℕ, ◌+◌, ◌*◌, ◌<◌, ◌^◌, ℤ, pos, List, ◌++◌, map, length, take, slice_index_or, Option, Some, None}
+use Rattle.std.specs.Prelude.{◌≡◌, ◌⊎◌, ℕ, ◌+◌, ◌*◌, ◌<◌, ◌^◌, ℤ, pos, List, [], ◌∷◌, ◌++◌, map, length, take, slice_index_or, Option, Some, None}
 use Rattle.pk_ctypes.specs.declared.types.IntType.{IntType}
 use Rattle.pk_graph.specs.declared.graphs.Variable.{Variable}
 use Rattle.pk_graph.specs.Graphs.{variable_view}
@@ -7,13 +7,13 @@ use Rattle.pk_graph.specs.Kinds.{Kinds}
 use Rattle.pk_octmat.specs.Bounds.{IsNear}
 use Rattle.pk_octmat.specs.Octagon.{Octagon, IsOctagon, bar, entry}
 use Rattle.pk_value.specs.Known.{Known}
-use Rattle.pk_state.specs.Layouts.{Layout, type_at}
-use Rattle.pk_state.specs.Facts.{Facts, Stated, known_at}
-use Rattle.pk_state.specs.Changes.{IsValue}
+use Rattle.pk_octagons.specs.Values.{type_at, known_at, IsValue}
+use Rattle.pk_state.specs.Layouts.{Layout}
+use Rattle.pk_state.specs.Facts.{Facts, Stated}
 use Rattle.pk_cert.specs.declared.rows.Symbol.{Symbol}
 use Rattle.pk_cert.specs.declared.rows.Symbol.TheVariants.{Star, Number, Far}
 use Rattle.pk_cert.specs.Rows.{kept}
-use Rattle.pk_cert_states.specs.Lines.{four_of, fours_at, symbols_in}
+use Rattle.pk_cert_states.specs.Lines.{own_pack, four_of, fours_at, symbols_in}
 
 -- the kinds of these variables
 abbrev pub kinds_in : List Variable → Kinds
@@ -50,7 +50,7 @@ pub record IsFirst (t : IntType) (symbols : List Symbol) (k : Known) : Type 0 wh
 -- a value of each slot's type
 pub record AreIn (l : Layout) (vs : List Known) : Type 0 where
   pub size : length vs ≡ length l.types
-  pub each : (j : ℕ) → j < length l.types → IsValue (type_at l j) (known_at vs j)
+  pub each : (j : ℕ) → j < length l.types → IsValue (type_at l.types j) (known_at vs j)
 
 -- values of the slots, of which in this order these symbols are the first numbers
 pub record AreFirst (l : Layout) (slots : List ℕ) (symbols : List Symbol) (vs : List Known) : Type 0 where
@@ -101,8 +101,8 @@ pub record AreBoundsOf (n : ℕ) (symbols : List Symbol) (m : Octagon) : Type 0 
 -- the state with these values and the octagon of which the symbols are the bounds
 pub record IsBounded (l : Layout) (vs : List Known) (symbols : List Symbol) (s : Stated) : Type 0 where
   pub octagon : Octagon
-  pub bounds : AreBoundsOf (length l.chosen) symbols octagon
-  pub state : s ≡ record { layout = l; facts = Some (record { values = vs; octagon = octagon }) }
+  pub bounds : AreBoundsOf (length (own_pack l)) symbols octagon
+  pub state : s ≡ record { layout = l; facts = Some (record { values = vs; octagons = octagon ∷ [] }) }
 
 -- the state over the layout that has facts with these symbols in this order
 pub record IsRead (slots : List ℕ) (l : Layout) (symbols : List Symbol) (s : Stated) : Type 0 where
@@ -110,9 +110,10 @@ pub record IsRead (slots : List ℕ) (l : Layout) (symbols : List Symbol) (s : S
   pub state : s ≡ record { layout = l; facts = Some facts }
   pub told : symbols ≡ map kept (symbols_in slots facts)
 
--- some run comes there, and something is known of each slot
+-- some run comes there, and something is known of each slot, and by one octagon
 pub record HasFacts (l : Layout) (s : Stated) : Type 0 where
   pub layout : s.layout ≡ l
   pub facts : Facts
   pub is : s.facts ≡ Some facts
   pub size : length facts.values ≡ length l.types
+  pub one : length facts.octagons ≡ 1

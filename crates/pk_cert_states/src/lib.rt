@@ -12,4 +12,4 @@ pub use bounds::octagon;
 pub use laws::{every_line_is_settled, facts_have_lines};
 pub use numbers::first_value;
 pub use orders::Order;
-pub use states::state_of;
+pub use states::{octagon_size, state_of};

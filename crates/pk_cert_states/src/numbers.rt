@@ -4,7 +4,7 @@ ghost use Rattle.std.specs.Prelude.{◌≡◌, ◌↔◌, ◌<◌, ◌≤ℤ◌,
 ghost use Rattle.pk_ctypes.specs.Types.{InType};
 ghost use Rattle.pk_interval.specs.Ranges.{IsIn};
 ghost use Rattle.pk_congr.specs.Classes.{IsReduced};
-ghost use Rattle.pk_state.specs.Changes.{IsValue};
+ghost use Rattle.pk_octagons.specs.Values.{IsValue};
 ghost use Rattle.pk_value.specs.Known.{Known};
 ghost use Rattle.pk_cert.specs.Rows.{kept};
 ghost use Rattle.pk_cert_states.specs.Lines.{four_of};

@@ -1,15 +1,14 @@
 // The state of a line.
 
-ghost use Rattle.std.specs.Prelude.{◌≡◌, ◌<◌, ℕ, IfOk, MatchOption, Some, Option, length, map};
+ghost use Rattle.std.specs.Prelude.{◌≡◌, ◌<◌, ◌^◌, ◌∷◌, [], ℕ, IfOk, MatchOption, Some, Option, length, map};
 ghost use Rattle.pk_octmat.specs.Octagon.{Octagon};
 ghost use Rattle.pk_graph.specs.Graphs.{kinds_of};
 ghost use Rattle.pk_graph.specs.Shown.{graph_view};
-ghost use Rattle.pk_state.specs.Layouts.{type_at};
-ghost use Rattle.pk_state.specs.Changes.{IsValue};
-ghost use Rattle.pk_state.specs.Facts.{Facts, AreFacts, AreFactsIf, known_at};
+ghost use Rattle.pk_octagons.specs.Values.{type_at, IsValue, known_at};
+ghost use Rattle.pk_state.specs.Facts.{Facts, AreFacts, AreFactsIf};
 ghost use Rattle.pk_transfer.specs.Graphs.{layout_of};
 ghost use Rattle.pk_cert.specs.Rows.{kept, kept_line, row_view};
-ghost use Rattle.pk_cert_states.specs.Lines.{line_slots, symbols_in, line_in, line_of};
+ghost use Rattle.pk_cert_states.specs.Lines.{own_pack, HasOne, line_slots, symbols_in, line_in, line_of};
 ghost use Rattle.pk_cert_states.specs.Parts.{AreBoundsOf, IsBounded, HasFacts, IsRead};
 
 use crate::bounds::octagon;
@@ -22,9 +21,19 @@ use pk_state::{Frame, State};
 use pk_value::Value;
 use std::alloc::{AllocError, Global};
 
+/// How many variables the octagon is over.
+pub fn octagon_size(frame: &Frame) -> u32
+    requires { HasOne frame.now }
+    ensures value { result ≡ length (own_pack frame.now) }
+    ensures few { result < 2 ^ 31 }
+{
+    frame.packs().pack(0).len() as u32
+}
+
 // A state to begin with: another one, or that of which nothing is known.
 fn begun<'f>(alloc: Global, frame: &'f Frame, beside: &State<'f>) -> Result<State<'f>, AllocError>
-    requires { beside.now.layout ≡ frame.now }
+    requires beside { beside.now.layout ≡ frame.now }
+    requires one { HasOne frame.now }
     ensures { IfOk result (HasFacts frame.now) }
 {
     if beside.is_bottom() {
@@ -45,18 +54,19 @@ fn with_facts<'f>(
     requires beside { beside.now.layout ≡ frame.now }
     requires size { length values.now ≡ length frame.now.types }
     requires values { (x : ℕ) → x < length values.now →
-        IsValue (type_at frame.now x) (known_at values.now x) }
-    requires octagon { octagon.vars ≡ length frame.now.chosen }
+        IsValue (type_at frame.now.types x) (known_at values.now x) }
+    requires octagon { octagon.vars ≡ length (own_pack frame.now) }
+    requires one { HasOne frame.now }
     ensures { IfOk result (λ s. s ≡ record {
       layout = frame.now;
-      facts = Some (record { values = values.now; octagon = octagon });
+      facts = Some (record { values = values.now; octagons = octagon ∷ [] });
     }) }
 {
     let mut state = begun(alloc, frame, beside)?;
     for x in 0..values.len() {
         state = state.with_value(alloc, x, values[x])?;
     }
-    state.with_bounds(alloc, octagon)
+    state.with_bounds(alloc, 0, octagon)
 }
 
 // The state with these values and the octagon of which the symbols are the bounds, if there is one.
@@ -70,18 +80,18 @@ fn bounded<'f>(
     requires beside { beside.now.layout ≡ frame.now }
     requires size { length values.now ≡ length frame.now.types }
     requires values { (x : ℕ) → x < length values.now →
-        IsValue (type_at frame.now x) (known_at values.now x) }
+        IsValue (type_at frame.now.types x) (known_at values.now x) }
+    requires one { HasOne frame.now }
     ensures { IfOk result (λ o. MatchOption o
-        ((m : Octagon) → AreBoundsOf (length frame.now.chosen) symbols.now m → ⊥)
+        ((m : Octagon) → AreBoundsOf (length (own_pack frame.now)) symbols.now m → ⊥)
         (IsBounded frame.now values.now symbols.now)) }
 {
-    frame.is_layout();
-    let n = frame.octagon_len();
-    let d = 2 * n;
+    let n = octagon_size(frame);
+    let d = 2 * n as usize;
     if symbols.len() != d * d {
         return Ok(None);
     }
-    match octagon(alloc, symbols, n as u32)? {
+    match octagon(alloc, symbols, n)? {
         None => Ok(None),
         Some(octagon) => Ok(Some(with_facts(alloc, frame, values, octagon, beside)?)),
     }
@@ -97,6 +107,7 @@ fn of_symbols<'f>(
 ) -> Result<Option<State<'f>>, AllocError>
     requires beside { beside.now.layout ≡ frame.now }
     requires many { length frame.now.types ≡ length order.now }
+    requires one { HasOne frame.now }
     ensures { IfOk result (λ o. MatchOption o
         ((f : Facts) → AreFacts frame.now f → symbols.now ≡ map kept (symbols_in order.now f) → ⊥)
         (IsRead order.now frame.now symbols.now)) }
@@ -124,6 +135,7 @@ fn in_order<'f>(
 ) -> Result<Option<State<'f>>, AllocError>
     requires beside { beside.now.layout ≡ frame.now }
     requires many { length frame.now.types ≡ length order.now }
+    requires one { HasOne frame.now }
     ensures { IfOk result (λ o. MatchOption o
         ((f : Option Facts) → AreFactsIf frame.now f →
         row_view row.now ≡ kept_line (line_in order.now f) → ⊥)

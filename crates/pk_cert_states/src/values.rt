@@ -3,7 +3,7 @@
 ghost use Rattle.std.specs.Prelude.{◌≡◌, ◌<◌, ◌+◌, IfOk, MatchOption, List, length};
 ghost use Rattle.pk_cert.specs.declared.rows.Symbol.{Symbol};
 ghost use Rattle.pk_value.specs.Known.{Known};
-ghost use Rattle.pk_state.specs.Changes.{IsValue};
+ghost use Rattle.pk_octagons.specs.Values.{IsValue};
 ghost use Rattle.pk_cert_states.specs.Parts.{AreIn, AreFirst, AreFilledTo, AreFilled};
 
 use crate::numbers::first_value;

@@ -143,7 +143,7 @@ NamesOne words =
     NamesCommand run_shape words ⊎ NamesCommand order_shape words ⊎ NamesCommand gen_shape words ⊎ NamesCommand cert_shape words ⊎ NamesCommand check_shape words
 
 run_keyed : IsKeyed run_shape.rules
-run_keyed = ((refl, refl), ((refl, refl), ((refl, refl), ((refl, refl), ((refl, refl), ((refl, refl), ((refl, refl), ((refl, refl), tt))))))))
+run_keyed = ((refl, refl), ((refl, refl), ((refl, refl), ((refl, refl), ((refl, refl), ((refl, refl), ((refl, refl), ((refl, refl), ((refl, refl), tt)))))))))
 
 order_keyed : IsKeyed order_shape.rules
 order_keyed = ((refl, refl), ((refl, refl), tt))
@@ -391,10 +391,12 @@ pub run_found : (rows : List Row) → Each (Passes run_shape.rules) rows → IsR
 run_found rows pass =
     let points = given_of run_shape.rules (run_rule 6) (codes "points") rows refl pass in
     let lean = given_of run_shape.rules (run_rule 7) (codes "lean") rows refl pass in
+    let packs = given_of run_shape.rules (run_rule 8) (codes "packs") rows refl pass in
     record {
       numbers = numbers_found run_shape.rules rows refl refl refl refl refl pass;
       points = record { word = points.passed; read = points.read ∙ copied (first_of (codes "points") rows) };
       lean = record { word = lean.passed; read = lean.read ∙ copied (first_of (codes "lean") rows) };
+      packs = record { word = packs.passed; read = packs.read ∙ copied (first_of (codes "packs") rows) };
     }
 
 pub cert_found : (rows : List Row) → Each (Passes cert_shape.rules) rows → AreNumbersFound rows

@@ -47,9 +47,10 @@ run_number_options = workers_option
     ∷ number_option (codes "max-runs") 1 549755813888
     ∷ []
 
--- `run [--workers N] [--delay D] [--narrow K] [--oct N] [--max-runs N] [--entry NAME] [--points] [--lean]`
+-- `run [--workers N] [--delay D] [--narrow K] [--oct N] [--max-runs N] [--entry NAME] [--points] [--lean] [--packs]`
 abbrev pub run_app : App
-run_app = command (codes "run") (run_number_options ++ entry_option ∷ flag (codes "points") ∷ flag (codes "lean") ∷ [])
+run_app = command (codes "run")
+    (run_number_options ++ entry_option ∷ flag (codes "points") ∷ flag (codes "lean") ∷ flag (codes "packs") ∷ [])
 
 -- `order [--entry NAME] [--peak]`
 abbrev pub order_app : App

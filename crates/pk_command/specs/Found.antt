@@ -32,6 +32,7 @@ pub record IsRunFound (rows : List Row) : Type 0 where
   pub numbers : AreNumbersFound rows
   pub points : IsFlagFound (codes "points") rows
   pub lean : IsFlagFound (codes "lean") rows
+  pub packs : IsFlagFound (codes "packs") rows
 
 pub record IsGenFound (rows : List Row) : Type 0 where
   pub seed : IsRequiredFound (codes "seed") 0 2147483647 rows

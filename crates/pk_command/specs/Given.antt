@@ -46,6 +46,7 @@ run_options rows = record {
   entry = text_of (codes "entry") (codes "main") rows;
   points = is_set (codes "points") rows;
   lean = is_set (codes "lean") rows;
+  packs = is_set (codes "packs") rows;
 }
 
 abbrev pub order_options : List Row → OrderOptions

@@ -17,6 +17,7 @@ RunIsTaken = AsksFor (codes "run" ∷ []) (Run (record {
   entry = codes "main";
   points = false;
   lean = false;
+  packs = false;
 }))
 
 -- the word `order` alone asks for the order from `main`, without its peak
@@ -49,6 +50,7 @@ CertIsTaken = AsksFor (codes "cert" ∷ []) (Cert (record {
 abbrev pub CertTakesNoFlag : Type 0
 CertTakesNoFlag = (is_taken (codes "cert" ∷ codes "--points" ∷ []) ≡ false)
     × (is_taken (codes "cert" ∷ codes "--lean" ∷ []) ≡ false)
+    × (is_taken (codes "cert" ∷ codes "--packs" ∷ []) ≡ false)
 
 -- the word `check` alone asks for a check
 abbrev pub CheckIsTaken : Type 0

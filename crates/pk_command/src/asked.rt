@@ -11,7 +11,7 @@ pub struct RunOptions {
     pub delay: u32,
     /// How often a head may be narrowed, from 0 to 8.
     pub narrow: u32,
-    /// How many variables the octagon has at most, from 0 to 64.
+    /// How many variables an octagon has at most, from 0 to 64.
     pub oct: usize,
     /// How often an element may be run, from 1 to 549755813888.
     pub max_runs: u64,
@@ -21,6 +21,8 @@ pub struct RunOptions {
     pub points: bool,
     /// Whether what is known at a point is let go of as soon as nothing reads it any more.
     pub lean: bool,
+    /// Whether each component has an octagon of its own.
+    pub packs: bool,
 }
 
 /// The options of `order`.
@@ -43,7 +45,7 @@ pub struct GenOptions {
     pub workers: u32,
 }
 
-/// The options of `cert`: those of `run`, but for `--points` and `--lean`.
+/// The options of `cert`: those of `run`, but for `--points`, `--lean` and `--packs`.
 #[derive(Drop)]
 pub struct CertOptions {
     /// How many threads iterate, from 1 to 64.

@@ -87,6 +87,15 @@ fn lean<'a>(alloc: Global) -> Arg<'a>
         .action(ArgAction::SetTrue)
 }
 
+fn packs<'a>(alloc: Global) -> Arg<'a>
+    ensures rule { rule_of result ≡ flag (codes "packs") }
+    ensures local { result.global ≡ false }
+{
+    Arg::new(alloc, "packs")
+        .long("packs")
+        .action(ArgAction::SetTrue)
+}
+
 fn peak<'a>(alloc: Global) -> Arg<'a>
     ensures rule { rule_of result ≡ flag (codes "peak") }
     ensures local { result.global ≡ false }
@@ -155,7 +164,8 @@ fn run_command<'a>(alloc: Global) -> Result<Command<'a>, AllocError>
 {
     let run = with(run_numbers(alloc, "run"), entry(alloc));
     let run = with(run, points(alloc));
-    with(run, lean(alloc))
+    let run = with(run, lean(alloc));
+    with(run, packs(alloc))
 }
 
 fn order_command<'a>(alloc: Global) -> Result<Command<'a>, AllocError>

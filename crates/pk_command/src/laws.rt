@@ -27,7 +27,7 @@ pub fn cert_is_taken()
     ensures { CertIsTaken }
 {}
 
-/// The word `cert` isn't taken with `--points` or `--lean`, which `run` has.
+/// The word `cert` isn't taken with `--points`, `--lean` or `--packs`, which `run` has.
 pub fn cert_takes_no_flag()
     ensures { CertTakesNoFlag }
 {}

@@ -116,6 +116,7 @@ fn run_options(alloc: Global, found: &ArgMatches<'_>) -> Result<RunOptions, Allo
         entry,
         points: is_given(found, "points"),
         lean: is_given(found, "lean"),
+        packs: is_given(found, "packs"),
     })
 }
 

@@ -123,6 +123,45 @@ fn these_words_ask_for_a_run(rt: HostRuntime) -> Result<(), Fail> {
     Ok(())
 }
 
+// Points, what is let go of, and packs.
+const FLAGS: [(&str, bool, bool, bool); 9] = [
+    ("run", false, false, false),
+    ("run --points", true, false, false),
+    ("run --lean", false, true, false),
+    ("run --packs", false, false, true),
+    ("run --packs --", false, false, true),
+    ("run --packs --points", true, false, true),
+    ("run --lean --packs --oct 2", false, true, true),
+    ("run --packs --workers 1 --lean --points", true, true, true),
+    ("run --entry=--packs", false, false, false),
+];
+
+fn has_flags(
+    alloc: Global,
+    words: &str,
+    points: bool,
+    lean: bool,
+    packs: bool,
+) -> Result<bool, Fail> {
+    match answer(alloc, words)? {
+        Ok(Command::Run(options)) => {
+            Ok(options.points == points && options.lean == lean && options.packs == packs)
+        }
+        _ => Ok(false),
+    }
+}
+
+#[test]
+fn these_words_have_flags(rt: HostRuntime) -> Result<(), Fail> {
+    for (words, points, lean, packs) in &FLAGS {
+        assert!(rt;
+            has_flags(rt.alloc(), *words, *points, *lean, *packs)?,
+            "{words}"
+        );
+    }
+    Ok(())
+}
+
 const ORDERS: [(&str, &str, bool); 19] = [
     ("order", "main", false),
     ("order --", "main", false),
@@ -192,7 +231,7 @@ fn these_words_ask_for_a_program(rt: HostRuntime) -> Result<(), Fail> {
     Ok(())
 }
 
-const USAGES: [&str; 125] = [
+const USAGES: [&str; 134] = [
     "",
     "Run",
     "ru",
@@ -291,6 +330,15 @@ const USAGES: [&str; 125] = [
     "run --entry",
     "run --entry a --entry b",
     "run --entry -x",
+    "run --packs --packs",
+    "run --packs=true",
+    "run --packs true",
+    "run --packs 2",
+    "run --pack",
+    "order --packs",
+    "cert --packs",
+    "check --packs",
+    "gen --seed 1 --size 1 --packs",
     "run --seed 1",
     "run --size 1",
     "order --narrow 1",

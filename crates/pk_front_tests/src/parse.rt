@@ -29,7 +29,7 @@ fn syntax(column: u64) -> Option<ParseError> {
 }
 
 // Texts, and the column at which each is a syntax error, or 0.
-const TEXTS: [(&str, u64); 44] = [
+const TEXTS: [(&str, u64); 56] = [
     ("", 0),
     ("}", 1),
     ("int x", 6),
@@ -73,6 +73,18 @@ const TEXTS: [(&str, u64); 44] = [
     ("static extern int x;", 8),
     ("int static x;", 5),
     ("int f(int static x);", 11),
+    ("int f(int b[3]);", 0),
+    ("int f(int[3],int c[1?2:3],int d){}", 0),
+    ("int f(void[3]);", 0),
+    ("int f(int b[1,2]);", 14),
+    ("int f(int b[a=1]);", 14),
+    ("int f(int b[3)", 14),
+    ("int f(int b[3]c);", 15),
+    ("int f(int[3]b);", 13),
+    ("int f(int b[3]=0);", 15),
+    ("int f(int b[3", 14),
+    ("int f(enum[2]);", 11),
+    ("int f([2]);", 7),
     ("int x=1,;", 9),
 ];
 
@@ -356,6 +368,8 @@ fn constructs_come_first(rt: HostRuntime) -> Result<(), Fail> {
     assert!(rt; refused(alloc, "} } x = 5 5 \"s\"")? == unsupported(Construct::StringLiteral, 13));
     assert!(rt; refused(alloc, "int f(void){a[1][2][3];}")? == unsupported(Construct::Arrays, 17));
     assert!(rt; refused(alloc, "int a[2][2]={{1},{2}};")? == unsupported(Construct::Arrays, 9));
+    assert!(rt; refused(alloc, "int f(int b[3][2]);")? == unsupported(Construct::Arrays, 15));
+    assert!(rt; refused(alloc, "int f(int b[],int);")? == unsupported(Construct::Brackets, 13));
     Ok(())
 }
 
@@ -369,6 +383,13 @@ fn repeated(
 ) -> Result<Option<ParseError>, Fail> {
     let pieces = piece.repeat(alloc, count)?;
     let text = format!(in alloc; "int f(void){{{front}{pieces}{back}}}")?;
+    refused(alloc, text.as_str())
+}
+
+// A parameter whose length begins with so many parentheses.
+fn parameter_length(alloc: Global, count: usize) -> Result<Option<ParseError>, Fail> {
+    let pieces = "(".repeat(alloc, count)?;
+    let text = format!(in alloc; "int f(int b[{pieces})")?;
     refused(alloc, text.as_str())
 }
 
@@ -408,5 +429,7 @@ fn deep_texts(rt: HostRuntime) -> Result<(), Fail> {
     }
     assert!(rt; repeated(alloc, "return ", "(", 126, ")")? == syntax(146));
     assert!(rt; repeated(alloc, "return ", "(", 127, ")")? == deep(146));
+    assert!(rt; parameter_length(alloc, 126)? == syntax(139));
+    assert!(rt; parameter_length(alloc, 127)? == deep(139));
     Ok(())
 }

@@ -35,4 +35,5 @@ one_report result law = record {
   orders = λ g with_peak a b x y.
       x.told ∙ law (digraph_of g) x.plan y.plan x.order y.order with_peak x.ordered y.ordered ∙ sym y.told;
   within = result.within;
+  few_packs = result.few_packs;
 }

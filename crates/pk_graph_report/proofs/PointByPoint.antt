@@ -8,9 +8,7 @@ use Rattle.std.proofs.lemmas.List.FromFn.{map-range_with_len_more}
 use Rattle.std.proofs.lemmas.Option.{get_or_from_slice_get}
 use Rattle.pk_graph.specs.Graphs.{GraphOf, kinds_of}
 use Rattle.pk_state.specs.Facts.{Stated}
-use Rattle.pk_transfer.specs.Graphs.{layout_of, GraphsAreOver}
 use Rattle.pk_transfer.specs.Trees.{IsOver}
-use Rattle.pk_analysis.specs.declared.analysis.Options.{Options}
 use Rattle.pk_report.specs.Reports.{AreHeads, no_state, state_at}
 use Rattle.pk_pieces.specs.declared.reports.Report.{Report}
 use Rattle.pk_pieces.specs.Joined.{piece_by, piece_of, pieces_of}
@@ -23,11 +21,10 @@ pub state_so : (states : List Stated) (p : ℕ) (s : Stated) → slice_get state
 state_so states p s there = sym (get_or_from_slice_get states p s no_state there)
 
 -- a state is over the graph's variables
-pub over_there : (g : GraphOf) (o : Options) (states : List Stated) (p : ℕ) (s : Stated) → GraphsAreOver → AreOver g o states → p < length g.points → s ≡ state_at states p → IsOver (kinds_of g) s.layout
-over_there g o states p s graphs over l is =
-    subst (IsOver (kinds_of g))
-    (sym (ap (λ (t : Stated). t.layout) is ∙ All-get_or (λ (t : Stated). t.layout ≡ layout_of g o.oct) states p no_state (omega (arith, l, over.size)) over.each))
-    (graphs.over g o.oct)
+pub over_there : (g : GraphOf) (states : List Stated) (p : ℕ) (s : Stated) → AreOver g states → p < length g.points → s ≡ state_at states p → IsOver (kinds_of g) s.layout
+over_there g states p s over l is =
+    subst (λ (t : Stated). IsOver (kinds_of g) t.layout) (sym is)
+    (All-get_or (λ (t : Stated). IsOver (kinds_of g) t.layout) states p no_state (omega (arith, l, over.size)) over.each)
 
 module _ (all : Bool) (g : GraphOf) (heads : List ℕ) (states : List Stated) (first : List ℕ) where
   -- the pieces of the first v points are told

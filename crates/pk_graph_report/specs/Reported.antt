@@ -11,7 +11,7 @@ use Rattle.pk_analysis.specs.declared.analysis.Options.{Options}
 use Rattle.pk_analysis.specs.Digraphs.{digraph_of}
 use Rattle.pk_report.specs.Reports.{report_text, summary_text, unknown_in}
 pub use Rattle.pk_pieces.specs.Joined.{verdict_at, verdicts_of}
-use Rattle.pk_analysis_laws.specs.Systems.{IsOver}
+use Rattle.pk_analysis_laws.specs.Systems.{HasManyPacks, IsOver}
 use Rattle.pk_solver.specs.Solved.{AreStates}
 
 -- the report, and its number of unknown verdicts
@@ -38,7 +38,7 @@ pub record IsOrderText (g : GraphOf) (with_peak : Bool) (bytes : List ℕ) : Typ
   pub ordered : IsOrdered (digraph_of g) plan order
   pub told : bytes ≡ order_lines plan order with_peak
 
--- A graph has at most one report, summary and order, and a report only where no element is run too often.
+-- A graph has at most one report, summary and order, and a report only where no element is run too often and there aren't too many packs.
 pub record OneReport : Type 0 where
   pub reports : (g : GraphOf) (o : Options) (most : ℕ) (all : Bool) (m n : ℕ) (a b : List ℕ) →
       IsReport g o most all m a → IsReport g o most all n b → (m ≡ n) × (a ≡ b)
@@ -48,3 +48,5 @@ pub record OneReport : Type 0 where
       IsOrderText g with_peak b → a ≡ b
   pub within : (g : GraphOf) (o : Options) (most : ℕ) (p : PlanView) (states : List Stated) →
       AreStates g o most p states → IsOver g o most → ⊥
+  pub few_packs : (g : GraphOf) (o : Options) (most : ℕ) (p : PlanView) (states : List Stated) →
+      AreStates g o most p states → HasManyPacks g o → ⊥

@@ -10,7 +10,7 @@ ghost use Rattle.pk_solver.specs.Solved.{AreOver};
 ghost use Rattle.pk_graph_report.specs.Reported.{IsOrderText};
 
 use crate::pieces::with_pieces;
-use pk_analysis::{Options, States, digraph};
+use pk_analysis::{States, digraph};
 use pk_graph::{Graph, accesses};
 use pk_order::ordered;
 use pk_peak::order_lines;
@@ -34,12 +34,11 @@ pub fn heads(alloc: Global, plan: &Plan) -> Result<Vec<u32>, AllocError>
 pub fn report_of(
     alloc: Global,
     graph: &Graph,
-    options: Options,
     plan: &Plan,
     states: &States,
     all: bool,
 ) -> Result<(Vec<u8>, usize), AllocError>
-    requires over { AreOver (graph_view graph.now) options states.now }
+    requires over { AreOver (graph_view graph.now) states.now }
     ensures bytes { IfOk result (λ r. r.0.items ≡ report_text all (graph_view graph.now) (heads_of plan.now)
         plan.now.elements states.now (accesses_of (graph_view graph.now))
         (verdicts_of (graph_view graph.now) states.now)) }
@@ -50,7 +49,7 @@ pub fn report_of(
     let accesses = accesses(alloc, graph)?;
     let mut first = Vec::new(alloc);
     write_first(alloc, &mut first, graph, plan.elements() as usize)?;
-    let report = with_pieces(alloc, first, graph, options, &accesses, &heads, states, all)?;
+    let report = with_pieces(alloc, first, graph, &accesses, &heads, states, all)?;
     let told = report.end(alloc, graph, &accesses)?;
     Ok(told)
 }
@@ -59,14 +58,13 @@ pub fn report_of(
 pub fn summary_of(
     alloc: Global,
     graph: &Graph,
-    options: Options,
     plan: &Plan,
     states: &States,
     seed: usize,
     size: usize,
     text_length: usize,
 ) -> Result<(Vec<u8>, usize), AllocError>
-    requires over { AreOver (graph_view graph.now) options states.now }
+    requires over { AreOver (graph_view graph.now) states.now }
     ensures bytes { IfOk result (λ r. r.0.items ≡ summary_text seed size text_length (graph_view graph.now)
         plan.now.elements (verdicts_of (graph_view graph.now) states.now)) }
     ensures unknown { IfOk result (λ r. r.1 ≡ unknown_in (verdicts_of (graph_view graph.now) states.now)) }
@@ -74,7 +72,7 @@ pub fn summary_of(
     reports_are_joined();
     let accesses = accesses(alloc, graph)?;
     let first = Vec::new(alloc);
-    let report = with_pieces(alloc, first, graph, options, &accesses, &[], states, false)?;
+    let report = with_pieces(alloc, first, graph, &accesses, &[], states, false)?;
     let verdicts = report.verdicts();
     let bytes = summary(
         alloc,
@@ -92,10 +90,9 @@ pub fn summary_of(
 pub fn checked_of(
     alloc: Global,
     graph: &Graph,
-    options: Options,
     states: &States,
 ) -> Result<(Vec<u8>, usize), AllocError>
-    requires over { AreOver (graph_view graph.now) options states.now }
+    requires over { AreOver (graph_view graph.now) states.now }
     ensures bytes { IfOk result (λ r. r.0.items ≡ checked_text (graph_view graph.now)
         (accesses_of (graph_view graph.now)) (verdicts_of (graph_view graph.now) states.now)) }
     ensures unknown { IfOk result (λ r. r.1 ≡ unknown_in (verdicts_of (graph_view graph.now) states.now)) }
@@ -104,7 +101,7 @@ pub fn checked_of(
     let accesses = accesses(alloc, graph)?;
     let mut first = Vec::new(alloc);
     write_valid(alloc, &mut first, graph)?;
-    let report = with_pieces(alloc, first, graph, options, &accesses, &[], states, false)?;
+    let report = with_pieces(alloc, first, graph, &accesses, &[], states, false)?;
     let told = report.end(alloc, graph, &accesses)?;
     Ok(told)
 }

@@ -6,7 +6,7 @@ use pk_peak::order_lines_are_determined;
 use pk_solver::states_are_determined;
 
 /// A graph has at most one report, one summary and one order with its peak, and a report only where no element is run too
-/// often.
+/// often and there aren't too many packs.
 pub fn one_report()
     ensures { OneReport }
 {

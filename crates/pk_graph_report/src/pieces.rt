@@ -9,31 +9,28 @@ ghost use Rattle.pk_pieces.specs.Joined.{piece_by, pieces_of};
 ghost use Rattle.pk_pieces.specs.Reports.{IsSoFar};
 ghost use Rattle.pk_solver.specs.Solved.{AreOver};
 
-use pk_analysis::{Options, States};
+use pk_analysis::States;
 use pk_graph::{Access, Graph};
 use pk_pieces::{Piece, Report, accesses_at, piece_by_state, piece_without_state};
 use pk_report::head_marks;
-use pk_transfer::graphs_law;
 use std::alloc::{AllocError, Global};
 
 // The piece of a point, whose state is reduced for it alone, where it is needed.
 fn piece_at(
     alloc: Global,
     graph: &Graph,
-    options: Options,
     accesses: &[Access<'_>],
     states: &States,
     point: usize,
     is_head: bool,
     all: bool,
 ) -> Result<Piece, AllocError>
-    requires over { AreOver (graph_view graph.now) options states.now }
+    requires over { AreOver (graph_view graph.now) states.now }
     requires accesses { access_views accesses.now ≡ accesses_of (graph_view graph.now) }
     requires point { point < length (graph_view graph.now).points }
     ensures { IfOk result
         (λ p. p ≡ piece_by all (graph_view graph.now) is_head (state_at states.now point) point) }
 {
-    graphs_law();
     graph.well_made();
     let own = accesses_at(graph, accesses, point);
     let number = point as u32;
@@ -50,29 +47,19 @@ pub(crate) fn with_pieces(
     alloc: Global,
     first: Vec<u8>,
     graph: &Graph,
-    options: Options,
     accesses: &[Access<'_>],
     heads: &[u32],
     states: &States,
     all: bool,
 ) -> Result<Report, AllocError>
-    requires over { AreOver (graph_view graph.now) options states.now }
+    requires over { AreOver (graph_view graph.now) states.now }
     requires accesses { access_views accesses.now ≡ accesses_of (graph_view graph.now) }
     ensures { IfOk result (IsSoFar first.items (pieces_of all (graph_view graph.now) heads.now states.now)) }
 {
     let marks = head_marks(alloc, heads, states.len())?;
     let mut report = Report::new(alloc, first);
     for point in 0..states.len() {
-        let piece = piece_at(
-            alloc,
-            graph,
-            options,
-            accesses,
-            states,
-            point,
-            marks[point],
-            all,
-        )?;
+        let piece = piece_at(alloc, graph, accesses, states, point, marks[point], all)?;
         report.add(&piece)?;
     }
     Ok(report)

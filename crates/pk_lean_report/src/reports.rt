@@ -12,6 +12,7 @@ ghost use Rattle.pk_graph_report.specs.Reported.{IsReport};
 ghost use Rattle.pk_parts.specs.Kept.{graph_in};
 ghost use Rattle.pk_lean_report.specs.Items.{AreOfItems};
 
+use pk_analysis::layouts_law;
 use pk_analysis_fits::{analyses_fit, linear_orders_are_orders};
 use pk_analysis_laws::analyses_end;
 use pk_graph::Graph;
@@ -20,8 +21,7 @@ use pk_items::every_top_is_outermost;
 use pk_iterate::Solve;
 use pk_parts::{Kept, Reporting};
 use pk_plan::Plan;
-use pk_solver::{IterationOptions, SolverError, analysis_of, paying_workers, plan_of};
-use pk_transfer::{frame, graphs_law};
+use pk_solver::{IterationOptions, SolverError, analysis_of, paying_workers, prepare};
 use pk_workers::{Gate, run_workers_lean};
 use std::alloc::Global;
 use std::sync::Wait;
@@ -97,11 +97,10 @@ pub fn lean_report<R: Threads + Wait + Sync, G: Gate + Sync>(
         IsReport (graph_view graph.now) options.now.analysis options.now.max_runs all r.1 r.0.items) }
     ensures err { IfErr result (IsCause (graph_view graph.now) options.now.analysis options.now.max_runs) }
 {
-    graphs_law();
-    let frame = frame(alloc, graph, options.analysis.oct)?;
-    let plan = plan_of(alloc, graph)?;
+    layouts_law();
+    let (plan, frame) = prepare(alloc, graph, options)?;
     let heads = heads(alloc, &plan)?;
-    let analysis = analysis_of(alloc, graph, &frame, options.analysis, &plan)?;
+    let analysis = analysis_of(alloc, graph, &frame, &plan, options.analysis)?;
     let reporting = Reporting::new(alloc, graph, &frame, analysis, heads, all)?;
     let told = report_by(rt, alloc, gate, &reporting, options, &plan);
     drop(reporting);

@@ -12,7 +12,7 @@ use Rattle.pk_graph.specs.WellMade.{IsGraph}
 use Rattle.pk_graph.specs.Visible.{Names, no_name, with_name, is_shown, name_at, not_hidden, is_of_file, files_first, visible_at}
 use Rattle.pk_state.specs.Layouts.{Layout}
 use Rattle.pk_state.specs.Facts.{Facts}
-use Rattle.pk_report.specs.Values.{placed, of_pairs, value_lines_if, pair_lines_if, facts_lines}
+use Rattle.pk_report.specs.Values.{related, of_pairs, value_lines_if, pair_lines_if, facts_lines}
 use Rattle.pk_report.specs.Reports.{is_head, AreHeads}
 
 -- ---- facts
@@ -20,7 +20,7 @@ use Rattle.pk_report.specs.Reports.{is_head, AreHeads}
 pub none_known : (g : GraphOf) (l : Layout) (facts : Option Facts) (xs : List ℕ) → facts ≡ None → codes "  unreachable\n" ≡ facts_lines g l facts xs
 none_known g l facts xs e = sym (ap (λ (f : Option Facts). facts_lines g l f xs) e)
 
-pub some_known : (g : GraphOf) (l : Layout) (facts : Option Facts) (xs : List ℕ) → (facts ≡ None → ⊥) → flat_map (value_lines_if g l facts) xs ++ of_pairs (pair_lines_if g facts) (placed l xs) ≡ facts_lines g l facts xs
+pub some_known : (g : GraphOf) (l : Layout) (facts : Option Facts) (xs : List ℕ) → (facts ≡ None → ⊥) → flat_map (value_lines_if g l facts) xs ++ of_pairs (pair_lines_if g l facts) (related l xs) ≡ facts_lines g l facts xs
 some_known g l None xs h = absurd (h refl)
 some_known g l (Some f) xs h = refl
 

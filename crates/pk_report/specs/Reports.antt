@@ -23,7 +23,7 @@ point_word false = codes "point "
 
 -- no run comes to a point without a state
 abbrev pub no_state : Stated
-no_state = record { layout = record { types = []; chosen = []; further = [] }; facts = None }
+no_state = record { layout = record { types = []; packs = []; further = [] }; facts = None }
 
 abbrev pub state_at : List Stated → ℕ → Stated
 state_at states v = slice_index_or states v no_state

@@ -1,8 +1,7 @@
 -- The lines of what is known at a point.
-use Rattle.std.specs.Prelude.{ℕ, ◌+◌, ◌-◌, ◌*◌, ◌^◌, ◌<◌, ℤ, pos, negsuc, ◌≤ℤ◌, ◌+ℤ◌, ◌-ℤ◌, int_lt, if◌then◌else◌, List, [], ◌∷◌, ◌++◌, codes, length, Option, Some, None, option_map, unwrap_or}
+use Rattle.std.specs.Prelude.{ℕ, ◌+◌, ◌-◌, ◌*◌, ◌^◌, ◌<◌, ℤ, pos, negsuc, ◌≤ℤ◌, ◌+ℤ◌, ◌-ℤ◌, int_lt, if◌then◌else◌, List, [], ◌∷◌, ◌++◌, codes, length, Option, Some, None, unwrap_or}
 use Rattle.std.specs.Fmt.{decimal, signed_decimal}
-use Rattle.std.specs.List.{flat_map, filter_map, range_with_len}
-use Rattle.pk_report.specs.declared.octagons.Placed.{Placed}
+use Rattle.std.specs.List.{flat_map, filter, range_with_len}
 use Rattle.pk_report.specs.declared.octagons.Bounds.{Bounds}
 use Rattle.pk_report.specs.declared.values.Subject.{Subject}
 use Rattle.pk_report.specs.declared.values.Subject.TheVariants.{Scalar, Array, Element}
@@ -11,10 +10,11 @@ use Rattle.pk_graph.specs.Graphs.{GraphOf, variable_at}
 use Rattle.pk_interval.specs.Ranges.{Range}
 use Rattle.pk_congr.specs.Classes.{Class}
 use Rattle.pk_value.specs.Known.{Known}
-use Rattle.pk_octmat.specs.Octagon.{entry}
-use Rattle.pk_state.specs.Layouts.{Layout, is_spread, slot_of, place_in}
-use Rattle.pk_state.specs.Facts.{Facts, known_at}
-use Rattle.pk_state.specs.Changes.{known_in}
+use Rattle.pk_octagons.specs.Packs.{is_chosen}
+use Rattle.pk_octagons.specs.Values.{known_at}
+use Rattle.pk_state.specs.Layouts.{Layout, is_spread, slot_of}
+use Rattle.pk_state.specs.Facts.{Facts}
+use Rattle.pk_state.specs.Changes.{known_in, bound_in}
 
 abbrev pub name_of : GraphOf → ℕ → List ℕ
 name_of g x = unwrap_or (variable_at g x).name []
@@ -60,12 +60,9 @@ pub record HasSlots (g : GraphOf) (l : Layout) : Type 0 where
   pub own : (x : ℕ) → x < length g.variables → x < length l.types
   pub there : (x i : ℕ) → x < length g.variables → i < numbers_of g x → slot_of l x i < length l.types
 
--- the variables that the octagon is over, with their places there
-abbrev pub placed_in : Layout → ℕ → Option Placed
-placed_in l x = option_map (λ k. record { variable = x; place = k }) (place_in l.chosen x)
-
-abbrev pub placed : Layout → List ℕ → List Placed
-placed l = filter_map (placed_in l)
+-- those of the variables that an octagon is over
+abbrev pub related : Layout → List ℕ → List ℕ
+related l = filter (is_chosen l.packs)
 
 -- `  FORM <= c`, only where c is less than what the intervals give
 abbrev pub bound_text : List ℕ → (limit : ℤ) → Option ℤ → List ℕ
@@ -81,29 +78,30 @@ pair_text x y kx ky b =
     ++ bound_text (x ++ codes " + " ++ y) (kx.range.hi +ℤ ky.range.hi) b.plus
     ++ bound_text (codes "-" ++ x ++ codes " - " ++ y) ((pos 0 -ℤ kx.range.lo) -ℤ ky.range.lo) b.negated
 
--- V(j) - V(i) is at most bound i j, and V(2k) is the variable of place k, V(2k + 1) its negative.
-abbrev pub bounds_of : (bound : ℕ → ℕ → Option ℤ) → (k l : ℕ) → Bounds
-bounds_of bound k l = record {
-  minus = bound (2 * l) (2 * k);
-  turned = bound (2 * k) (2 * l);
-  plus = bound (2 * l + 1) (2 * k);
-  negated = bound (2 * l) (2 * k + 1);
+-- V(j) - V(i) is at most bound i j, and V(2x) is variable x, V(2x + 1) its negative.
+abbrev pub bounds_of : (bound : ℕ → ℕ → Option ℤ) → (x y : ℕ) → Bounds
+bounds_of bound x y = record {
+  minus = bound (2 * y) (2 * x);
+  turned = bound (2 * x) (2 * y);
+  plus = bound (2 * y + 1) (2 * x);
+  negated = bound (2 * y) (2 * x + 1);
 }
 
-abbrev pub pair_lines : GraphOf → Facts → Placed → Placed → List ℕ
-pair_lines g f p q =
-    pair_text (name_of g p.variable) (name_of g q.variable) (known_at f.values p.variable)
-    (known_at f.values q.variable) (bounds_of (entry f.octagon) p.place q.place)
+-- the least bounds of the octagons that are over both
+abbrev pub pair_lines : GraphOf → Layout → Facts → ℕ → ℕ → List ℕ
+pair_lines g l f x y =
+    pair_text (name_of g x) (name_of g y) (known_at f.values x) (known_at f.values y)
+    (bounds_of (bound_in l (Some f)) x y)
 
 -- each pair, the one before the other in the list
-abbrev pub of_pairs : (Placed → Placed → List ℕ) → List Placed → List ℕ
+abbrev pub of_pairs : (ℕ → ℕ → List ℕ) → List ℕ → List ℕ
 of_pairs line [] = []
-of_pairs line (p ∷ ps) = flat_map (line p) ps ++ of_pairs line ps
+of_pairs line (x ∷ xs) = flat_map (line x) xs ++ of_pairs line xs
 
 -- of the visible variables
 abbrev pub facts_lines : GraphOf → Layout → Option Facts → List ℕ → List ℕ
 facts_lines g l None xs = codes "  unreachable\n"
-facts_lines g l (Some f) xs = flat_map (value_lines g l f) xs ++ of_pairs (pair_lines g f) (placed l xs)
+facts_lines g l (Some f) xs = flat_map (value_lines g l f) xs ++ of_pairs (pair_lines g l f) (related l xs)
 
 -- ---- where there may be no facts
 
@@ -123,9 +121,9 @@ elements_lines_if g l o x = flat_map (element_line_if g l o x) (range_with_len 0
 abbrev pub value_lines_if : GraphOf → Layout → Option Facts → ℕ → List ℕ
 value_lines_if g l o x = if is_spread l x then elements_lines_if g l o x else whole_line_if g o x
 
-abbrev pub pair_lines_if : GraphOf → Option Facts → Placed → Placed → List ℕ
-pair_lines_if g None p q = []
-pair_lines_if g (Some f) p q = pair_lines g f p q
+abbrev pub pair_lines_if : GraphOf → Layout → Option Facts → ℕ → ℕ → List ℕ
+pair_lines_if g l None x y = []
+pair_lines_if g l (Some f) x y = pair_lines g l f x y
 
 -- bounds that no type passes
 pub record IsSmall (k : Known) : Type 0 where

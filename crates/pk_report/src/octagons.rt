@@ -1,12 +1,12 @@
-// Lines of an octagon.
+// Lines of octagons.
 
-ghost use Rattle.std.specs.Prelude.{◌≡◌, ◌<◌, ◌^◌, ◌++◌, ◌≤ℤ◌, ◌+ℤ◌, ◌-ℤ◌, pos, negsuc, OnOk, IfOk, IfSome, Some, All, codes, length};
+ghost use Rattle.std.specs.Prelude.{◌≡◌, ◌<◌, ◌^◌, ◌++◌, ◌∷◌, [], if◌then◌else◌, ◌≤ℤ◌, ◌+ℤ◌, ◌-ℤ◌, pos, negsuc, OnOk, IfOk, Some, All, codes, length};
 ghost use Rattle.std.specs.Fmt.{signed_decimal};
 ghost use Rattle.std.specs.List.{flat_map};
-ghost use Rattle.std.specs.Option.{option_to_list};
 ghost use Rattle.pk_graph.specs.Shown.{graph_view};
+ghost use Rattle.pk_octagons.specs.Packs.{is_chosen};
 ghost use Rattle.pk_state.specs.Changes.{bound_in};
-ghost use Rattle.pk_report.specs.Values.{placed_in, placed, bound_text, bounds_of, pair_text, of_pairs, pair_lines_if, IsSmall};
+ghost use Rattle.pk_report.specs.Values.{related, bound_text, bounds_of, pair_text, of_pairs, pair_lines_if, IsSmall};
 
 use crate::texts::{write_number, write_text};
 use crate::values::name_of;
@@ -15,39 +15,27 @@ use pk_state::State;
 use pk_value::Value;
 use std::alloc::{AllocError, Global};
 
-/// A variable that the octagon is over, and its place there.
-#[derive(Clone, Copy)]
-pub(crate) struct Placed {
-    pub variable: usize,
-    pub place: u32,
-}
-
-fn placed_at(state: &State, x: usize) -> Option<Placed>
-    ensures value { result ≡ placed_in state.now.layout x }
-    ensures there { IfSome result (λ p. p.place < length state.now.layout.chosen) }
+// A variable, if an octagon is over it.
+fn push_if(list: &mut Vec<usize>, state: &State, x: usize) -> Result<(), AllocError>
+    ensures value { OnOk result (list.new.items
+        ≡ list.old.items ++ (if is_chosen state.now.layout.packs x then x ∷ [] else [])) }
+    ensures small { OnOk result (All (λ y. y < 2 ^ 63) list.old.items → All (λ y. y < 2 ^ 63) list.new.items) }
 {
-    match state.place(x) {
-        Some(place) => Some(Placed { variable: x, place }),
-        None => None,
+    if !state.is_chosen(x) {
+        return Ok(());
     }
-}
-
-fn push_if(list: &mut Vec<Placed>, placed: Option<Placed>) -> Result<(), AllocError>
-    ensures { OnOk result (list.new.items ≡ list.old.items ++ option_to_list placed) }
-{
-    if let Some(placed) = placed {
-        list.push(placed)?;
-    }
+    list.push(x)?;
     Ok(())
 }
 
-// Those of these variables that the octagon is over.
-fn all_placed(alloc: Global, state: &State, visible: &[usize]) -> Result<Vec<Placed>, AllocError>
-    ensures { IfOk result (λ list. list.items ≡ placed state.now.layout visible.now) }
+// Those of these variables that an octagon is over.
+fn all_related(alloc: Global, state: &State, visible: &[usize]) -> Result<Vec<usize>, AllocError>
+    ensures value { IfOk result (λ list. list.items ≡ related state.now.layout visible.now) }
+    ensures small { IfOk result (λ list. All (λ x. x < 2 ^ 63) list.items) }
 {
     let mut list = Vec::new(alloc);
     for k in 0..visible.len() {
-        push_if(&mut list, placed_at(state, visible[k]))?;
+        push_if(&mut list, state, visible[k])?;
     }
     Ok(list)
 }
@@ -183,7 +171,7 @@ fn negated_limit(kx: Value, ky: Value) -> i128
     negated(kx.interval.lo, ky.interval.lo)
 }
 
-/// The octagon's bounds on x - y, y - x, x + y and -x - y.
+/// The least bounds on x - y, y - x, x + y and -x - y.
 #[derive(Clone, Copy)]
 pub(crate) struct Bounds {
     pub minus: Option<i128>,
@@ -192,19 +180,18 @@ pub(crate) struct Bounds {
     pub negated: Option<i128>,
 }
 
-fn bounds_between(state: &State, k: u32, l: u32) -> Bounds
-    requires first { k < length state.now.layout.chosen }
-    requires second { l < length state.now.layout.chosen }
-    ensures { result ≡ bounds_of (bound_in state.now.facts) k l }
+fn bounds_between(state: &State, x: usize, y: usize) -> Bounds
+    requires first { x < 2 ^ 63 }
+    requires second { y < 2 ^ 63 }
+    ensures { result ≡ bounds_of (bound_in state.now.layout state.now.facts) x y }
 {
-    state.is_stated();
-    let x = 2 * k;
-    let y = 2 * l;
+    let a = 2 * x;
+    let b = 2 * y;
     Bounds {
-        minus: state.bound(y, x),
-        turned: state.bound(x, y),
-        plus: state.bound(y + 1, x),
-        negated: state.bound(y, x + 1),
+        minus: state.bound(b, a),
+        turned: state.bound(a, b),
+        plus: state.bound(b + 1, a),
+        negated: state.bound(b, a + 1),
     }
 }
 
@@ -239,23 +226,23 @@ fn write_pair(
     bytes: &mut Vec<u8>,
     graph: &Graph,
     state: &State,
-    p: Placed,
-    q: Placed,
+    x: usize,
+    y: usize,
 ) -> Result<(), AllocError>
-    requires first { p.variable < length state.now.layout.types }
-    requires second { q.variable < length state.now.layout.types }
-    requires first_place { p.place < length state.now.layout.chosen }
-    requires second_place { q.place < length state.now.layout.chosen }
-    ensures { OnOk result
-        (bytes.new.items ≡ bytes.old.items ++ pair_lines_if (graph_view graph.now) state.now.facts p q) }
+    requires first { x < length state.now.layout.types }
+    requires second { y < length state.now.layout.types }
+    requires first_small { x < 2 ^ 63 }
+    requires second_small { y < 2 ^ 63 }
+    ensures { OnOk result (bytes.new.items
+        ≡ bytes.old.items ++ pair_lines_if (graph_view graph.now) state.now.layout state.now.facts x y) }
 {
-    match state.value(p.variable) {
-        Some(kx) => match state.value(q.variable) {
+    match state.value(x) {
+        Some(kx) => match state.value(y) {
             Some(ky) => {
-                let bounds = bounds_between(state, p.place, q.place);
-                let x = name_of(graph, p.variable);
-                let y = name_of(graph, q.variable);
-                write_forms(alloc, bytes, x, y, kx, ky, bounds)?;
+                let bounds = bounds_between(state, x, y);
+                let left = name_of(graph, x);
+                let right = name_of(graph, y);
+                write_forms(alloc, bytes, left, right, kx, ky, bounds)?;
                 Ok(())
             }
             None => Ok(()),
@@ -270,18 +257,18 @@ fn write_pairs(
     bytes: &mut Vec<u8>,
     graph: &Graph,
     state: &State,
-    p: Placed,
-    others: &[Placed],
+    x: usize,
+    others: &[usize],
 ) -> Result<(), AllocError>
-    requires first { p.variable < length state.now.layout.types }
-    requires first_place { p.place < length state.now.layout.chosen }
-    requires others { All (λ q. q.variable < length state.now.layout.types) others.now }
-    requires places { All (λ q. q.place < length state.now.layout.chosen) others.now }
-    ensures { OnOk result (bytes.new.items
-        ≡ bytes.old.items ++ flat_map (pair_lines_if (graph_view graph.now) state.now.facts p) others.now) }
+    requires first { x < length state.now.layout.types }
+    requires others { All (λ y. y < length state.now.layout.types) others.now }
+    requires first_small { x < 2 ^ 63 }
+    requires small { All (λ y. y < 2 ^ 63) others.now }
+    ensures { OnOk result (bytes.new.items ≡ bytes.old.items
+        ++ flat_map (pair_lines_if (graph_view graph.now) state.now.layout state.now.facts x) others.now) }
 {
     for k in 0..others.len() {
-        write_pair(alloc, bytes, graph, state, p, others[k])?;
+        write_pair(alloc, bytes, graph, state, x, others[k])?;
     }
     Ok(())
 }
@@ -291,12 +278,12 @@ fn write_all_pairs(
     bytes: &mut Vec<u8>,
     graph: &Graph,
     state: &State,
-    list: &[Placed],
+    list: &[usize],
 ) -> Result<(), AllocError>
-    requires variables { All (λ q. q.variable < length state.now.layout.types) list.now }
-    requires places { All (λ q. q.place < length state.now.layout.chosen) list.now }
-    ensures { OnOk result (bytes.new.items
-        ≡ bytes.old.items ++ of_pairs (pair_lines_if (graph_view graph.now) state.now.facts) list.now) }
+    requires variables { All (λ y. y < length state.now.layout.types) list.now }
+    requires small { All (λ y. y < 2 ^ 63) list.now }
+    ensures { OnOk result (bytes.new.items ≡ bytes.old.items
+        ++ of_pairs (pair_lines_if (graph_view graph.now) state.now.layout state.now.facts) list.now) }
 {
     for k in 0..list.len() {
         write_pairs(alloc, bytes, graph, state, list[k], &list[k + 1..])?;
@@ -304,8 +291,8 @@ fn write_all_pairs(
     Ok(())
 }
 
-/// The lines of each pair of these variables that the octagon is over.
-pub(crate) fn write_octagon(
+/// The lines of each pair of these variables that octagons are over.
+pub(crate) fn write_octagons(
     alloc: Global,
     bytes: &mut Vec<u8>,
     graph: &Graph,
@@ -314,9 +301,10 @@ pub(crate) fn write_octagon(
 ) -> Result<(), AllocError>
     requires { All (λ x. x < length state.now.layout.types) visible.now }
     ensures { OnOk result (bytes.new.items ≡ bytes.old.items
-        ++ of_pairs (pair_lines_if (graph_view graph.now) state.now.facts) (placed state.now.layout visible.now)) }
+        ++ of_pairs (pair_lines_if (graph_view graph.now) state.now.layout state.now.facts)
+        (related state.now.layout visible.now)) }
 {
-    let list = all_placed(alloc, state, visible)?;
+    let list = all_related(alloc, state, visible)?;
     write_all_pairs(alloc, bytes, graph, state, &list)?;
     Ok(())
 }

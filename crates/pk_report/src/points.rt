@@ -6,7 +6,7 @@ ghost use Rattle.pk_graph.specs.Shown.{graph_view};
 ghost use Rattle.pk_report.specs.Values.{facts_lines, HasSlots};
 ghost use Rattle.pk_report.specs.Reports.{point_word, place_end, heading, point_lines, AreHeads};
 
-use crate::octagons::write_octagon;
+use crate::octagons::write_octagons;
 use crate::paths::write_path;
 use crate::texts::{write_count, write_place, write_text};
 use crate::values::write_values;
@@ -33,7 +33,7 @@ fn write_facts(
         return Ok(());
     }
     write_values(alloc, bytes, graph, state, visible)?;
-    write_octagon(alloc, bytes, graph, state, visible)?;
+    write_octagons(alloc, bytes, graph, state, visible)?;
     Ok(())
 }
 

@@ -11,7 +11,6 @@ use Rattle.pk_graph.specs.Graphs.{GraphOf}
 use Rattle.pk_graph.specs.Shown.{graph_view}
 use Rattle.pk_state.specs.Layouts.{Layout}
 use Rattle.pk_state.specs.Facts.{Stated}
-use Rattle.pk_transfer.specs.Graphs.{layout_of}
 use Rattle.pk_order.specs.Ordered.{OrderIsDetermined, heads_of}
 use Rattle.pk_iterate.specs.Answer.{Over, IsResult}
 use Rattle.pk_iterate.specs.Iteration.{cell_after, progress}
@@ -25,9 +24,11 @@ use Rattle.pk_analysis.specs.Arrows.{arrows_at, origins}
 use Rattle.pk_analysis.specs.Digraphs.{digraph_of}
 use Rattle.pk_analysis.specs.Parts.{part_in, part_at, AreParts}
 use Rattle.pk_analysis.specs.Flows.{Flow, equations_of, equation, state_operations, stated, reduced_over}
-use Rattle.pk_analysis_laws.specs.Systems.{IsOver, IsSystem}
+use Rattle.pk_analysis.specs.Layouts.{layout_for}
+use Rattle.pk_analysis_laws.specs.Systems.{HasManyPacks, IsOver, IsSystem}
 use Rattle.pk_analysis_laws.proofs.Sorting.{thresholds_same}
 use Rattle.pk_solver.specs.Solved.{AreRawCells, AreStates, RawCellsAreDetermined, StatesAreDetermined}
+use Rattle.pk_solver.proofs.Packed.{counts_same, layouts_same}
 
 -- ---- parts
 
@@ -88,7 +89,7 @@ systems_same law g o p q one other a b x y =
     let heads = law.heads (digraph_of g) p q one other x.ordered y.ordered in
     let elements = law.elements (digraph_of g) p q one other x.ordered y.ordered in
     let graph : graph_view a.graph ≡ graph_view b.graph = x.analysis.graph ∙ sym y.analysis.graph in
-    let layout : a.layout ≡ b.layout = x.analysis.layout ∙ sym y.analysis.layout in
+    let layout : a.layout ≡ b.layout = x.analysis.layout ∙ layouts_same g p q one other x.ordered y.ordered o ∙ sym y.analysis.layout in
     let thresholds : a.thresholds ≡ b.thresholds = thresholds_same g a.thresholds b.thresholds x.analysis.thresholds y.analysis.thresholds in
     let parts : a.parts ≡ b.parts = parts_same p q a.parts b.parts x.ordered.axioms y.ordered.axioms heads elements x.analysis.parts y.analysis.parts in
     let delay : a.delay ≡ b.delay = x.analysis.delay ∙ sym y.analysis.delay in
@@ -134,6 +135,18 @@ not_over law g o most p order a it s found y =
     (subst (λ (l : Level). Over (behaviour_of (equations_of a)) l y.plan.elements most) same.order
     (subst (λ (e : Equations Stated). Over (behaviour_of e) y.order y.plan.elements most) same.equations y.over)))
 
+-- ---- packs
+
+too_many : (g : GraphOf) (o : Options) (p : PlanView) (order : Level) (a : Flow) → IsSystem g o p order a → HasManyPacks g o → ⊥
+too_many g o p order a s y =
+    let same = counts_same g p y.plan order y.order s.ordered y.ordered in
+    let few = s.analysis.few y.asked in
+    let many = y.many in
+    absurd (omega (arith, same, few, many))
+
+one_limit : (g : GraphOf) (o : Options) (most : ℕ) → IsOver g o most → HasManyPacks g o → ⊥
+one_limit g o most x = too_many g o x.plan x.order x.flow x.system
+
 -- ---- raw cells
 
 raw_same : OrderIsDetermined → (g : GraphOf) (o : Options) (most : ℕ) (a b : List (Cell Stated)) → AreRawCells g o most a → AreRawCells g o most b → a ≡ b
@@ -141,18 +154,23 @@ raw_same law g o most a b x y =
     x.cells_are ∙ cells_same law g o most x.plan y.plan x.order y.order x.flow y.flow x.outcome y.outcome x.system y.system x.result y.result ∙ sym y.cells_are
 
 raw_reduced : OrderIsDetermined → (g : GraphOf) (o : Options) (most : ℕ) (p : PlanView) (cells : List (Cell Stated)) (states : List Stated) → AreRawCells g o most cells → AreStates g o most p states
-    → states ≡ map (reduced_over (layout_of g o.oct)) (take (length g.points) cells)
+    → states ≡ map (reduced_over (layout_for g p o)) (take (length g.points) cells)
 raw_reduced law g o most p cells states x y =
     y.reduced
     ∙ ap (λ (l : Layout). map (reduced_over l) (take (length g.points) y.outcome.cells)) y.system.analysis.layout
-    ∙ ap (λ (cs : List (Cell Stated)). map (reduced_over (layout_of g o.oct)) (take (length g.points) cs))
+    ∙ ap (λ (cs : List (Cell Stated)). map (reduced_over (layout_for g p o)) (take (length g.points) cs))
     (cells_same law g o most p x.plan y.order x.order y.flow x.flow y.outcome x.outcome y.system x.system y.result x.result ∙ sym x.cells_are)
 
 raw_within : OrderIsDetermined → (g : GraphOf) (o : Options) (most : ℕ) (cells : List (Cell Stated)) → AreRawCells g o most cells → IsOver g o most → ⊥
 raw_within law g o most cells x = not_over law g o most x.plan x.order x.flow x.outcome x.system x.result
 
 pub raw_cells_are_determined : OrderIsDetermined → RawCellsAreDetermined
-raw_cells_are_determined law = record { cells = raw_same law; states = raw_reduced law; within = raw_within law }
+raw_cells_are_determined law = record {
+  cells = raw_same law;
+  states = raw_reduced law;
+  within = raw_within law;
+  few_packs = λ g o most cells x. too_many g o x.plan x.order x.flow x.system;
+}
 
 -- ---- states
 
@@ -180,4 +198,6 @@ states_are_determined law = record {
   elements = elements_same law;
   states = states_same law;
   within = within_limit law;
+  few_packs = λ g o most p states x. too_many g o p x.order x.flow x.system;
+  one_limit = one_limit;
 }

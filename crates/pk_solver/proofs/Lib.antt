@@ -1,3 +1,4 @@
 pub mod Solved
+pub mod Packed
 pub mod Outcomes
 mod Determined

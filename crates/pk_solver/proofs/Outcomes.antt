@@ -5,11 +5,11 @@ use Rattle.std.proofs.Common.{arith, refl, subst, sym, ap, ◌∙◌}
 use Rattle.std.proofs.lemmas.List.{length-map, length-take-le}
 use Rattle.std.proofs.lemmas.List.FromFn.{length-range_with_len}
 use Rattle.std.proofs.lemmas.List.Elements.{All-nil, All-cons}
-use Rattle.pk_graph.specs.Graphs.{GraphOf}
+use Rattle.pk_graph.specs.Graphs.{GraphOf, kinds_of}
 use Rattle.pk_graph.specs.Shown.{graph_view}
 use Rattle.pk_state.specs.Facts.{Stated}
 use Rattle.pk_state.specs.Layouts.{Layout}
-use Rattle.pk_transfer.specs.Graphs.{layout_of}
+use Rattle.pk_transfer.specs.Trees as trees
 use Rattle.pk_plan.specs.Order.{Level}
 use Rattle.pk_plan.specs.Plans.{PlanView}
 use Rattle.pk_iterate.specs.Answer.{IsResult}
@@ -23,7 +23,7 @@ use Rattle.pk_phases.specs.declared.equations.Part.TheVariants.{Point, HeadOf, E
 use Rattle.pk_phases.specs.Equations.{behaviour_of, held_in, may_hold_of, value_of}
 use Rattle.pk_analysis.specs.declared.analysis.Options.{Options}
 use Rattle.pk_analysis.specs.Flows.{Flow, equations_of, stated, reduced_cell, IsOverFlow}
-use Rattle.pk_analysis.specs.Made.{IsAnalysisOf}
+use Rattle.pk_analysis.specs.Layouts.{LayoutsAreOver}
 use Rattle.pk_analysis.specs.Parts.{part_at}
 use Rattle.pk_solver.specs.Solved.{AreCellsOver, AreOver, AreRawCells, AreStates, IsOutcomeOf}
 use Rattle.pk_solver.proofs.Solved.{enough_elements}
@@ -65,29 +65,26 @@ cells_many a order elements most it is =
     ∙ length-range_with_len 0 elements
 
 -- reduced, at the points
-states_over : (g : GraphOf) (o : Options) (p : PlanView) (a : Flow) (cells : List (Cell Stated)) (states : List Stated)
-    → IsAnalysisOf g p o a → length g.points ≤ length cells → states ≡ map (reduced_cell a) (take (length g.points) cells) → AreOver g o states
-states_over g o p a cells states is enough made = record {
+states_over : (g : GraphOf) (a : Flow) (cells : List (Cell Stated)) (states : List Stated)
+    → trees.IsOver (kinds_of g) a.layout → length g.points ≤ length cells → states ≡ map (reduced_cell a) (take (length g.points) cells) → AreOver g states
+states_over g a cells states over enough made = record {
   size = ap (λ (ss : List Stated). length ss) made ∙ length-map (take (length g.points) cells) (reduced_cell a) ∙ length-take-le (length g.points) cells enough;
-  each = subst (All (λ (s : Stated). s.layout ≡ layout_of g o.oct)) (sym made) (all (take (length g.points) cells));
+  each = subst (All (λ (s : Stated). trees.IsOver (kinds_of g) s.layout)) (sym made) (all (take (length g.points) cells));
 }
   where
-    all : (cs : List (Cell Stated)) → All (λ (s : Stated). s.layout ≡ layout_of g o.oct) (map (reduced_cell a) cs)
-    all [] = All-nil (λ (s : Stated). s.layout ≡ layout_of g o.oct)
-    all (c ∷ cs) = All-cons (λ (s : Stated). s.layout ≡ layout_of g o.oct) (reduced_cell a c) (map (reduced_cell a) cs) is.layout (all cs)
+    all : (cs : List (Cell Stated)) → All (λ (s : Stated). trees.IsOver (kinds_of g) s.layout) (map (reduced_cell a) cs)
+    all [] = All-nil (λ (s : Stated). trees.IsOver (kinds_of g) s.layout)
+    all (c ∷ cs) = All-cons (λ (s : Stated). trees.IsOver (kinds_of g) s.layout) (reduced_cell a c) (map (reduced_cell a) cs) over (all cs)
 
 -- ---- what was found
 
 module _ (o : Options) (p : PlanView) (a : Flow) (most : ℕ) (it : Outcome (Cell Stated)) (x : IsOutcomeOf o p a most it) where
   -- of each element, the points among them, over the variables
-  pub cells_over_so : CellsAreHeld (behaviour_of (equations_of a)) (may_hold_of (equations_of a) (IsOverFlow a)) → AreCellsOver (graph_view a.graph) o it.cells
+  pub cells_over_so : CellsAreHeld (behaviour_of (equations_of a)) (may_hold_of (equations_of a) (IsOverFlow a)) → AreCellsOver (graph_view a.graph) a.layout it.cells
   cells_over_so held = record {
     enough = omega (arith, cells_many a x.order p.elements most it x.result, enough_elements (graph_view a.graph) p x.order x.system.ordered);
-    over = subst (λ (l : Layout). All (λ (c : Cell Stated). (value_of (stated l None) c).layout ≡ l) it.cells) x.system.analysis.layout (cells_over a x.order p.elements most it held x.result);
+    over = cells_over a x.order p.elements most it held x.result;
   }
-
-  pub held_so : AreCellsOver (graph_view a.graph) o it.cells → All (λ (c : Cell Stated). (value_of (stated a.layout None) c).layout ≡ a.layout) it.cells
-  held_so y = subst (λ (l : Layout). All (λ (c : Cell Stated). (value_of (stated l None) c).layout ≡ l) it.cells) (sym x.system.analysis.layout) y.over
 
   pub raw_so : AreRawCells (graph_view a.graph) o most it.cells
   raw_so = record { plan = p; order = x.order; flow = a; system = x.system; outcome = it; result = x.result; cells_are = refl }
@@ -96,5 +93,11 @@ module _ (o : Options) (p : PlanView) (a : Flow) (most : ℕ) (it : Outcome (Cel
     pub states_so : AreStates (graph_view a.graph) o most p states
     states_so = record { order = x.order; flow = a; system = x.system; outcome = it; result = x.result; reduced = made }
 
-    pub over_so : AreCellsOver (graph_view a.graph) o it.cells → AreOver (graph_view a.graph) o states
-    over_so y = states_over (graph_view a.graph) o p a it.cells states x.system.analysis y.enough made
+    pub over_so : LayoutsAreOver → AreCellsOver (graph_view a.graph) a.layout it.cells → AreOver (graph_view a.graph) states
+    over_so law y =
+        let over = subst (trees.IsOver (kinds_of (graph_view a.graph))) (sym x.system.analysis.layout) (law.over (graph_view a.graph) p o) in
+        states_over (graph_view a.graph) a it.cells states over y.enough made
+
+-- of a graph, and over the layout of its frame
+pub cells_moved : {g h : GraphOf} {l y : Layout} (cells : List (Cell Stated)) → g ≡ h → l ≡ y → AreCellsOver g l cells → AreCellsOver h y cells
+cells_moved {g} {h} {l} {y} cells graph layout x = subst (λ (z : Layout). AreCellsOver h z cells) layout (subst (λ (k : GraphOf). AreCellsOver k l cells) graph x)

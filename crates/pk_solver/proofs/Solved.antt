@@ -1,14 +1,16 @@
 -- The analysis of a graph by the plan of its digraph, by its order and by workers.
-use Rattle.std.specs.Prelude.{◌≡◌, ℕ, ◌+◌, ◌*◌, ◌<◌, ◌≤◌, ◌^◌, List, length, map}
+use Rattle.std.specs.Prelude.{◌≡◌, ℕ, ◌+◌, ◌*◌, ◌<◌, ◌≤◌, ◌^◌, true, List, length, map}
 use Rattle.std.proofs.Common.{ap, arith, refl, subst, sym, ◌∙◌}
 use Rattle.std.proofs.lemmas.List.{length-map}
 use Rattle.pk_graph.specs.Graphs.{EdgeOf, PointOf, GraphOf, kinds_of}
 use Rattle.pk_transfer.specs.Slots.{slot_types}
 use Rattle.pk_graph.specs.Shown.{graph_view}
 use Rattle.pk_graph.specs.WellMade.{IsGraph}
-use Rattle.pk_graph.specs.OctagonVariables.{octagon_variables_of}
 use Rattle.pk_state.specs.Facts.{Stated}
+use Rattle.pk_state.specs.Layouts.{Layout}
 use Rattle.pk_thresh.specs.Chains.{chain_bound_of}
+use Rattle.pk_packs.specs.Chains.{entries_of}
+use Rattle.pk_packs.specs.Packs.{pack_count, pack_limit}
 use Rattle.pk_plan.specs.Order.{Level}
 use Rattle.pk_plan.specs.Linear.{IsLinear}
 use Rattle.pk_plan.specs.Plans.{PlanView}
@@ -24,13 +26,16 @@ use Rattle.pk_phases.specs.Equations.{behaviour_of}
 use Rattle.pk_analysis.specs.declared.analysis.Options.{Options}
 use Rattle.pk_analysis.specs.Digraphs.{digraph_of}
 use Rattle.pk_analysis.specs.Flows.{Flow, equations_of}
+use Rattle.pk_analysis.specs.Layouts.{layout_for, packs_for, HasFewPacks}
 use Rattle.pk_analysis.specs.Made.{IsAnalysisOf}
 use Rattle.pk_core.specs.Orders.{IsOrderOf}
 use Rattle.pk_words.specs.Reads.{HasEnd}
 use Rattle.pk_analysis_fits.specs.Orders.{LinearOrdersAreOrders}
-use Rattle.pk_analysis_laws.specs.Systems.{IsOver, IsSystem}
+use Rattle.pk_analysis_laws.specs.Systems.{HasManyPacks, IsOver, IsSystem}
 use Rattle.pk_analysis_laws.specs.Turns.Ended.{AnalysesEnd}
 use Rattle.pk_workers.specs.Answers.{IsResultOf, IsExceeded}
+use Rattle.pk_solver.specs.Bounds.{most_elements}
+use Rattle.pk_solver.specs.Prepared.{IsPrepared}
 use Rattle.pk_solver.specs.Solved.{IsOutcomeOf}
 
 -- the plan of a digraph has a linear order
@@ -52,6 +57,13 @@ module _ (g : GraphOf) (p : PlanView) (order : Level) (ordered : IsOrdered (digr
 
   pub enough_elements : length g.points ≤ p.elements
   enough_elements = omega (arith, plan_points, ordered.axioms.counted)
+
+-- its plan, and the layout by it
+pub prepared_so : (g : GraphOf) (o : Options) (p : PlanView) (l : Layout) → (order : Level) × IsOrdered (digraph_of g) p order → p.elements ≤ most_elements → l ≡ layout_for g p o → HasFewPacks p o → IsPrepared g o p l
+prepared_so g o p l x elements layout few = record { order = x.0; ordered = x.1; elements = elements; layout = layout; few = few }
+
+pub many_so : (g : GraphOf) (o : Options) (p : PlanView) → (order : Level) × IsOrdered (digraph_of g) p order → (o.packs ≡ true) × (pack_limit < pack_count p) → HasManyPacks g o
+many_so g o p x many = record { plan = p; order = x.0; ordered = x.1; asked = many.0; many = many.1 }
 
 -- the equations of a graph are those of the graph that they hold
 pub own_system : (g : GraphOf) (o : Options) (p : PlanView) (a : Flow) → (order : Level) × IsOrdered (digraph_of g) p order → IsAnalysisOf g p o a
@@ -92,7 +104,7 @@ module _ (o : Options) (p : PlanView) (a : Flow) (order : Level) (system : IsSys
   ends : Ends (behaviour_of (equations_of a)) order
   ends =
       let g = graph_view a.graph in
-      let chain = chain_bound_of (length (slot_types (kinds_of g))) (length a.thresholds) (length (octagon_variables_of g o.oct)) in
+      let chain : ℕ = chain_bound_of (length (slot_types (kinds_of g))) (length a.thresholds) 0 + entries_of (packs_for g p o) in
       (end g o p order a chain made few system (a.thresholds, system.analysis.thresholds, refl)).ends
 
   is_order : IsOrderOf (shape_of p) order

@@ -1,9 +1,10 @@
 -- What is known at the points of a graph: the result of Bourdoncle's recursive iteration over the order of its points.
 use Rattle.std.specs.Prelude.{◌≡◌, ℕ, ◌≤◌, List, length, map, take, All, None}
-use Rattle.pk_graph.specs.Graphs.{GraphOf}
+use Rattle.pk_graph.specs.Graphs.{GraphOf, kinds_of}
 use Rattle.pk_graph.specs.Shown.{graph_view}
+use Rattle.pk_state.specs.Layouts.{Layout}
 use Rattle.pk_state.specs.Facts.{Stated}
-use Rattle.pk_transfer.specs.Graphs.{layout_of}
+use Rattle.pk_transfer.specs.Trees as trees
 use Rattle.pk_plan.specs.Order.{Level}
 use Rattle.pk_plan.specs.Plans.{PlanView}
 use Rattle.pk_order.specs.Ordered.{heads_of}
@@ -13,9 +14,10 @@ use Rattle.pk_phases.specs.declared.equations.Cell.{Cell}
 use Rattle.pk_phases.specs.Equations.{behaviour_of, value_of}
 use Rattle.pk_analysis.specs.declared.analysis.Options.{Options}
 use Rattle.pk_analysis.specs.Flows.{Flow, equations_of, reduced_cell, reduced_over, stated}
-use Rattle.pk_analysis_laws.specs.Systems.{IsOver, IsSystem}
+use Rattle.pk_analysis.specs.Layouts.{layout_for}
+use Rattle.pk_analysis_laws.specs.Systems.{HasManyPacks, IsOver, IsSystem}
 use Rattle.pk_solver.specs.declared.solving.SolverError.{SolverError}
-use Rattle.pk_solver.specs.declared.solving.SolverError.TheVariants.{RunLimit, Memory}
+use Rattle.pk_solver.specs.declared.solving.SolverError.TheVariants.{RunLimit, PackLimit, Memory}
 
 -- what the recursive iteration of these equations over the order of their plan ends with
 pub record IsOutcomeOf (o : Options) (p : PlanView) (a : Flow) (most : ℕ) (it : Outcome (Cell Stated)) : Type 0 where
@@ -33,10 +35,10 @@ pub record AreRawCells (g : GraphOf) (o : Options) (most : ℕ) (cells : List (C
   pub result : IsResult (behaviour_of (equations_of flow)) order plan.elements most outcome
   pub cells_are : cells ≡ outcome.cells
 
--- There is a cell for each point, and each cell's state is over the graph's variables. One that holds a phase has no state, and counts as that of a point where no run comes.
-pub record AreCellsOver (g : GraphOf) (o : Options) (cells : List (Cell Stated)) : Type 0 where
+-- There is a cell for each point, and each cell's state has this layout. One that holds a phase has no state, and counts as that of a point where no run comes.
+pub record AreCellsOver (g : GraphOf) (l : Layout) (cells : List (Cell Stated)) : Type 0 where
   pub enough : length g.points ≤ length cells
-  pub over : All (λ (c : Cell Stated). (value_of (stated (layout_of g o.oct) None) c).layout ≡ layout_of g o.oct) cells
+  pub over : All (λ (c : Cell Stated). (value_of (stated l None) c).layout ≡ l) cells
 
 -- the recursive iteration's result at each point, reduced
 pub record AreStates (g : GraphOf) (o : Options) (most : ℕ) (p : PlanView) (states : List Stated) : Type 0 where
@@ -48,16 +50,17 @@ pub record AreStates (g : GraphOf) (o : Options) (most : ℕ) (p : PlanView) (st
   pub reduced : states ≡ map (reduced_cell flow) (take (length g.points) outcome.cells)
 
 -- one for each point, over the graph's variables
-pub record AreOver (g : GraphOf) (o : Options) (states : List Stated) : Type 0 where
+pub record AreOver (g : GraphOf) (states : List Stated) : Type 0 where
   pub size : length states ≡ length g.points
-  pub each : All (λ (s : Stated). s.layout ≡ layout_of g o.oct) states
+  pub each : All (λ (s : Stated). trees.IsOver (kinds_of g) s.layout) states
 
 -- why there are neither cells nor states
 abbrev pub IsCause : GraphOf → Options → (most : ℕ) → SolverError → Type 0
 IsCause g o most RunLimit = IsOver g o most
+IsCause g o most PackLimit = HasManyPacks g o
 IsCause g o most Memory = Unit {0}
 
--- A graph has one plan's heads and elements and one list of states, or some element is run too often, and not both.
+-- A graph has one plan's heads and elements and one list of states, or some element is run too often, or there would be too many packs, and no two of these.
 pub record StatesAreDetermined : Type 0 where
   pub heads : (g : GraphOf) (o : Options) (most : ℕ) (p q : PlanView) (s t : List Stated) →
       AreStates g o most p s → AreStates g o most q t → heads_of p ≡ heads_of q
@@ -67,13 +70,18 @@ pub record StatesAreDetermined : Type 0 where
       AreStates g o most p s → AreStates g o most q t → s ≡ t
   pub within : (g : GraphOf) (o : Options) (most : ℕ) (p : PlanView) (states : List Stated) →
       AreStates g o most p states → IsOver g o most → ⊥
+  pub few_packs : (g : GraphOf) (o : Options) (most : ℕ) (p : PlanView) (states : List Stated) →
+      AreStates g o most p states → HasManyPacks g o → ⊥
+  pub one_limit : (g : GraphOf) (o : Options) (most : ℕ) → IsOver g o most → HasManyPacks g o → ⊥
 
--- A graph has one list of raw cells, and its states are those of the points, reduced; or some element is run too often, and not both.
+-- A graph has one list of raw cells, and its states are those of the points, reduced; or some element is run too often, or there would be too many packs, and no two of these.
 pub record RawCellsAreDetermined : Type 0 where
   pub cells : (g : GraphOf) (o : Options) (most : ℕ) (a b : List (Cell Stated)) →
       AreRawCells g o most a → AreRawCells g o most b → a ≡ b
   pub states : (g : GraphOf) (o : Options) (most : ℕ) (p : PlanView) (cells : List (Cell Stated))
       (states : List Stated) → AreRawCells g o most cells → AreStates g o most p states
-      → states ≡ map (reduced_over (layout_of g o.oct)) (take (length g.points) cells)
+      → states ≡ map (reduced_over (layout_for g p o)) (take (length g.points) cells)
   pub within : (g : GraphOf) (o : Options) (most : ℕ) (cells : List (Cell Stated)) →
       AreRawCells g o most cells → IsOver g o most → ⊥
+  pub few_packs : (g : GraphOf) (o : Options) (most : ℕ) (cells : List (Cell Stated)) →
+      AreRawCells g o most cells → HasManyPacks g o → ⊥

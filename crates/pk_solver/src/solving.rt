@@ -1,25 +1,22 @@
 // What the iteration leaves at each point of a graph.
 
-ghost use Rattle.std.specs.Prelude.{◌≡◌, ◌≤◌, IfOk, IfErr, length};
+ghost use Rattle.std.specs.Prelude.{◌≡◌, ◌≤◌, IfOk, IfErr};
 ghost use Rattle.pk_graph.specs.Shown.{graph_view};
 ghost use Rattle.pk_graph.specs.WellMade.{IsGraph};
-ghost use Rattle.pk_transfer.specs.Graphs.{layout_of};
 ghost use Rattle.pk_plan.specs.Order.{Level};
-ghost use Rattle.pk_order.specs.Ordered.{IsOrdered};
-ghost use Rattle.pk_analysis.specs.Digraphs.{digraph_of};
 ghost use Rattle.pk_analysis_laws.specs.Systems.{IsSystem};
-ghost use Rattle.pk_solver.specs.Bounds.{AreInRange, most_elements, most_points, most_workers};
+ghost use Rattle.pk_solver.specs.Bounds.{AreInRange, most_elements, most_workers};
+ghost use Rattle.pk_solver.specs.Prepared.{IsPrepared};
 ghost use Rattle.pk_solver.specs.Solved.{AreCellsOver, AreOver, AreRawCells, AreStates, IsCause, IsOutcomeOf};
 
 use crate::iterating::cells_by_order;
+use crate::preparing::analysis_of;
 use crate::widths::paying_workers;
-use pk_analysis::{Analysis, Options, States, digraph};
+use pk_analysis::{Analysis, Options, States, layouts_law};
 use pk_analysis_fits::{analyses_fit, linear_orders_are_orders};
 use pk_analysis_laws::analyses_end;
 use pk_graph::Graph;
 use pk_iterate::{Cells, Solve, cells_are_held};
-use pk_order::planned;
-use pk_order_laws::every_plan_has_a_linear_order;
 use pk_phases::Cell;
 use pk_plan::Plan;
 use pk_state::{Frame, State};
@@ -37,18 +34,13 @@ pub struct IterationOptions {
     pub max_runs: u64,
 }
 
-/// The plan of a graph, and what is known at each of its points.
-#[derive(Drop)]
-pub struct Solution<'f> {
-    pub plan: Plan,
-    pub states: States<'f>,
-}
-
-/// Why there is no solution.
+/// Why nothing is left.
 #[derive(Drop)]
 pub enum SolverError {
     /// An element would be run more often than the limit.
     RunLimit,
+    /// States would have more octagons than the limit.
+    PackLimit,
     Memory,
 }
 
@@ -61,40 +53,6 @@ impl From<AllocError> for SolverError {
     fn from(_: AllocError) -> Self {
         SolverError::Memory
     }
-}
-
-/// The plan of a graph, of which there is a linear order.
-pub fn plan_of(alloc: Global, graph: &Graph) -> Result<Plan, AllocError>
-    requires few { length (graph_view graph.now).points ≤ most_points }
-    ensures ordered { IfOk result
-        (λ plan. (order : Level) × IsOrdered (digraph_of (graph_view graph.now)) plan order) }
-    ensures few { IfOk result (λ plan. plan.elements ≤ most_elements) }
-{
-    every_plan_has_a_linear_order();
-    graph.well_made();
-    let points = digraph(alloc, graph)?;
-    let plan = planned(alloc, &points)?;
-    Ok(plan)
-}
-
-/// The equations of a graph, with the heads and exits of its plan.
-pub fn analysis_of<'f>(
-    alloc: Global,
-    graph: &'f Graph,
-    frame: &'f Frame,
-    options: Options,
-    plan: &Plan,
-) -> Result<Analysis<'f>, AllocError>
-    requires frame { frame.now ≡ layout_of (graph_view graph.now) options.oct }
-    requires ordered { (order : Level) × IsOrdered (digraph_of (graph_view graph.now)) plan.now order }
-    ensures graph { IfOk result (λ analysis. graph_view analysis.graph ≡ graph_view graph.now) }
-    ensures made { IfOk result (λ analysis. IsGraph (graph_view analysis.graph)) }
-    ensures system { IfOk result (λ analysis. (order : Level)
-        × IsSystem (graph_view analysis.graph) options plan.now order analysis) }
-{
-    graph.well_made();
-    let analysis = Analysis::new(alloc, graph, frame, plan, options)?;
-    Ok(analysis)
 }
 
 // What workers leave.
@@ -142,7 +100,7 @@ fn cells_by<'f, R: Threads + Wait + Sync, G: Gate + Sync>(
         × IsSystem (graph_view analysis.now.graph) options.now.analysis plan.now order analysis.now }
     ensures ok { IfOk result (IsOutcomeOf options.now.analysis plan.now analysis.now options.now.max_runs) }
     ensures over { IfOk result (λ cells.
-        AreCellsOver (graph_view analysis.now.graph) options.now.analysis cells.cells) }
+        AreCellsOver (graph_view analysis.now.graph) analysis.now.layout cells.cells) }
     ensures err { IfErr result (IsCause (graph_view analysis.now.graph) options.now.analysis options.now.max_runs) }
 {
     cells_are_held(analysis);
@@ -170,61 +128,56 @@ fn states_by<'f, R: Threads + Wait + Sync, G: Gate + Sync>(
         × IsSystem (graph_view analysis.now.graph) options.now.analysis plan.now order analysis.now }
     ensures ok { IfOk result (λ states. AreStates (graph_view analysis.now.graph) options.now.analysis
         options.now.max_runs plan.now states) }
-    ensures over { IfOk result (λ states.
-        AreOver (graph_view analysis.now.graph) options.now.analysis states) }
+    ensures over { IfOk result (AreOver (graph_view analysis.now.graph)) }
     ensures err { IfErr result (IsCause (graph_view analysis.now.graph) options.now.analysis options.now.max_runs) }
 {
+    layouts_law();
     let cells = cells_by(rt, alloc, gate, analysis, options, plan)?;
     Ok(States::of(analysis, cells))
 }
 
-/// The plan of a graph, and what the recursive iteration leaves at each point, reduced: the same for every number of workers.
+/// What the recursive iteration over the plan of a graph leaves at each point, reduced: the same for every number of workers.
 pub fn states<'f, R: Threads + Wait + Sync, G: Gate + Sync>(
     rt: &R,
     alloc: Global,
     gate: &G,
     graph: &'f Graph,
     frame: &'f Frame,
+    plan: &Plan,
     options: &IterationOptions,
-) -> Result<Solution<'f>, SolverError>
-    requires few { length (graph_view graph.now).points ≤ most_points }
+) -> Result<States<'f>, SolverError>
     requires range { AreInRange options.now }
-    requires frame { frame.now ≡ layout_of (graph_view graph.now) options.now.analysis.oct }
-    ensures ok { IfOk result (λ solution. AreStates (graph_view graph.now) options.now.analysis options.now.max_runs
-        solution.plan solution.states) }
-    ensures over { IfOk result (λ solution.
-        AreOver (graph_view graph.now) options.now.analysis solution.states) }
+    requires prepared { IsPrepared (graph_view graph.now) options.now.analysis plan.now frame.now }
+    ensures ok { IfOk result
+        (AreStates (graph_view graph.now) options.now.analysis options.now.max_runs plan.now) }
+    ensures over { IfOk result (AreOver (graph_view graph.now)) }
     ensures err { IfErr result (IsCause (graph_view graph.now) options.now.analysis options.now.max_runs) }
 {
-    let plan = plan_of(alloc, graph)?;
-    let analysis = analysis_of(alloc, graph, frame, options.analysis, &plan)?;
-    let states = states_by(rt, alloc, gate, &analysis, options, &plan);
+    let analysis = analysis_of(alloc, graph, frame, plan, options.analysis)?;
+    let states = states_by(rt, alloc, gate, &analysis, options, plan);
     drop(analysis);
-    let states = states?;
-    Ok(Solution { plan, states })
+    states
 }
 
-/// What the recursive iteration leaves at each element of a graph's plan, of which the points come first: the same for every number of workers.
+/// What it leaves at each element of the plan, of which the points come first.
 pub fn cells<'f, R: Threads + Wait + Sync, G: Gate + Sync>(
     rt: &R,
     alloc: Global,
     gate: &G,
     graph: &'f Graph,
     frame: &'f Frame,
+    plan: &Plan,
     options: &IterationOptions,
 ) -> Result<Cells<Cell<State<'f>>>, SolverError>
-    requires few { length (graph_view graph.now).points ≤ most_points }
     requires range { AreInRange options.now }
-    requires frame { frame.now ≡ layout_of (graph_view graph.now) options.now.analysis.oct }
+    requires prepared { IsPrepared (graph_view graph.now) options.now.analysis plan.now frame.now }
     ensures ok { IfOk result (λ cells.
         AreRawCells (graph_view graph.now) options.now.analysis options.now.max_runs cells.cells) }
-    ensures over { IfOk result (λ cells. AreCellsOver (graph_view graph.now) options.now.analysis cells.cells) }
+    ensures over { IfOk result (λ cells. AreCellsOver (graph_view graph.now) frame.now cells.cells) }
     ensures err { IfErr result (IsCause (graph_view graph.now) options.now.analysis options.now.max_runs) }
 {
-    let plan = plan_of(alloc, graph)?;
-    let analysis = analysis_of(alloc, graph, frame, options.analysis, &plan)?;
-    let cells = cells_by(rt, alloc, gate, &analysis, options, &plan);
+    let analysis = analysis_of(alloc, graph, frame, plan, options.analysis)?;
+    let cells = cells_by(rt, alloc, gate, &analysis, options, plan);
     drop(analysis);
-    drop(plan);
     cells
 }

@@ -9,8 +9,11 @@ use Rattle.pk_command.specs.Given.{AsksFor}
 use Rattle.pk_command.specs.Laws.{OneCommand}
 use Rattle.pk_command.proofs.Asking.{asked_taken}
 use Rattle.pk_graph.specs.Graphs.{GraphOf}
+use Rattle.pk_state.specs.Facts.{Stated}
+use Rattle.pk_plan.specs.Plans.{PlanView}
 use Rattle.pk_analysis.specs.declared.analysis.Options.{Options}
-use Rattle.pk_analysis_laws.specs.Systems.{IsOver}
+use Rattle.pk_analysis_laws.specs.Systems.{HasManyPacks, IsOver}
+use Rattle.pk_solver.specs.Solved.{AreStates}
 use Rattle.pk_graph_report.specs.Reported.{IsReport, IsSummary, IsOrderText, OneReport}
 use Rattle.pk_text_graph.specs.Graphs.{GraphIsDetermined, HasGraph}
 use Rattle.pk_status.specs.declared.status.Status.{Status}
@@ -41,10 +44,13 @@ short_or_long text Check short long = absurd (omega (arith, short, long))
 
 module _ (laws : Laws) where
   -- a report or a summary, and why there is none
-  report_or_cause : (text entry : List ℕ) (o : Options) (most : ℕ) (s : Status) (g : GraphOf) → s ≢ status.Memory → HasGraph text entry g → (IsOver g o most → ⊥) → IsUnanalysed text entry o most s → ⊥
-  report_or_cause text entry o most s g other has within (inl x) = laws.causes.graph text entry g s other has x
-  report_or_cause text entry o most s g other has within (inr x) =
-      within (subst (λ (h : GraphOf). IsOver h o most) (laws.graphs.graph text entry x.0.graph g x.0.has_graph has) x.0.over)
+  report_or_cause : (text entry : List ℕ) (o : Options) (most : ℕ) (s : Status) (g : GraphOf) → s ≢ status.Memory → HasGraph text entry g → (p : PlanView) (states : List Stated) → AreStates g o most p states
+      → IsUnanalysed text entry o most s → ⊥
+  report_or_cause text entry o most s g other has p states are (inl x) = laws.causes.graph text entry g s other has x
+  report_or_cause text entry o most s g other has p states are (inr (inl x)) =
+      laws.reports.few_packs g o most p states are (subst (λ (h : GraphOf). HasManyPacks h o) (laws.graphs.graph text entry x.0.graph g x.0.has_graph has) x.0.many)
+  report_or_cause text entry o most s g other has p states are (inr (inr x)) =
+      laws.reports.within g o most p states are (subst (λ (h : GraphOf). IsOver h o most) (laws.graphs.graph text entry x.0.graph g x.0.has_graph has) x.0.over)
 
   one_told : (text : List ℕ) (c : Command) (m n : ℕ) (a b : List ℕ) → IsTold text c m a → IsTold text c n b → (m ≡ n) × (a ≡ b)
   one_told text (Run o) m n a b x y =
@@ -63,10 +69,10 @@ module _ (laws : Laws) where
 
   told_or_stopped : (text : List ℕ) (c : Command) (m : ℕ) (a : List ℕ) (s : Status) → s ≢ status.Memory → IsTold text c m a → IsStopped text c s → ⊥
   told_or_stopped text (Run o) m a s other x y =
-      report_or_cause text o.entry (options_of o) o.max_runs s x.graph other x.has_graph (laws.reports.within x.graph (options_of o) o.max_runs x.report.plan x.report.states x.report.are_states) y
+      report_or_cause text o.entry (options_of o) o.max_runs s x.graph other x.has_graph x.report.plan x.report.states x.report.are_states y
   told_or_stopped text (Order o) m a s other x y = laws.causes.graph text o.entry x.graph s other x.has_graph y
   told_or_stopped text (Gen o) m a s other x y =
-      report_or_cause text (codes "main") default_options default_runs s x.graph other x.has_graph (laws.reports.within x.graph default_options default_runs x.summary.plan x.summary.states x.summary.are_states) y
+      report_or_cause text (codes "main") default_options default_runs s x.graph other x.has_graph x.summary.plan x.summary.states x.summary.are_states y
   told_or_stopped text (Cert o) m a s other x y = laws.certificates.apart text o.entry (certified_options o) o.max_runs a s other x.0 y
   told_or_stopped text Check m a s other x y = laws.checks.apart text m a s other x y
 
@@ -139,9 +145,10 @@ one_answer one laws words text s t a b (inr x) (inr y) =
 module _ (o p : RunOptions) (d : DifferInMeans o p) where
   same_options : options_of o ≡ options_of p
   same_options =
-      ap (λ (n : ℕ). let r : Options = record { delay = n; narrow = o.narrow; oct = o.oct } in r) d.delay
-      ∙ ap (λ (n : ℕ). let r : Options = record { delay = p.delay; narrow = n; oct = o.oct } in r) d.narrow
-      ∙ ap (λ (n : ℕ). let r : Options = record { delay = p.delay; narrow = p.narrow; oct = n } in r) d.oct
+      ap (λ (n : ℕ). let r : Options = record { delay = n; narrow = o.narrow; oct = o.oct; packs = o.packs } in r) d.delay
+      ∙ ap (λ (n : ℕ). let r : Options = record { delay = p.delay; narrow = n; oct = o.oct; packs = o.packs } in r) d.narrow
+      ∙ ap (λ (n : ℕ). let r : Options = record { delay = p.delay; narrow = p.narrow; oct = n; packs = o.packs } in r) d.oct
+      ∙ ap (λ b. let r : Options = record { delay = p.delay; narrow = p.narrow; oct = p.oct; packs = b } in r) d.packs
 
   other_report : (g : GraphOf) (u : ℕ) (a : List ℕ) → IsReport g (options_of o) o.max_runs o.points u a → IsReport g (options_of p) p.max_runs p.points u a
   other_report g u a h =

@@ -10,15 +10,17 @@ use Rattle.pk_front.specs.declared.failures.TextError.{TextError}
 use Rattle.pk_front.specs.declared.failures.TextError.TheVariants.{Memory}
 use Rattle.pk_graph.specs.Graphs.{GraphOf}
 use Rattle.pk_analysis.specs.declared.analysis.Options.{Options}
-use Rattle.pk_analysis_laws.specs.Systems.{IsOver}
 use Rattle.pk_graph_report.specs.Reported.{IsReport, IsSummary}
 use Rattle.pk_solver.specs.Bounds.{AreInRange, most_workers}
+use Rattle.pk_solver.specs.declared.solving.SolverError.{SolverError}
+use Rattle.pk_solver.specs.Solved.{IsCause}
 use Rattle.pk_text_graph.specs.Graphs.{HasGraph, HasNoGraph}
 use Rattle.pk_status.specs.declared.status.Status.{Status}
 use Rattle.pk_status.specs.declared.status.Status.TheVariants as status
 use Rattle.pk_status.specs.Statuses.{status_of}
-use Rattle.pk_cert_report.specs.Causes.{IsTooLong, IsUngraphed}
+use Rattle.pk_cert_report.specs.Causes.{IsUnanalysed, IsUngraphed, status_of_cause}
 use Rattle.pk_cert_report.specs.Written.{IsCertified, IsUncertified}
+use Rattle.pk_cert_report.proofs.Deciding.{cause_so}
 use Rattle.pk_text_report.specs.Answers.{IsMade, IsRun, certified_options, default_options, default_runs, options_of}
 
 -- what an iteration is asked for
@@ -83,12 +85,12 @@ made_so text entry o g p most size unknown bytes name same limit long has summar
       (subst (λ (q : Options). IsSummary g q most o.seed o.size size unknown bytes) same summary));
 }
 
-pub cut_so : (text entry name : List ℕ) (o p : Options) (m n : ℕ) (g : GraphOf) → entry ≡ name → p ≡ o → n ≡ m → HasGraph text entry g → IsOver g p n → IsTooLong text name o m
-cut_so text entry name o p m n g is same limit has over = record {
-  graph = g;
-  has_graph = subst (λ (e : List ℕ). HasGraph text e g) is has;
-  over = subst (IsOver g o) limit (subst (λ (q : Options). IsOver g q n) same over);
-}
+-- without what the iteration leaves
+pub cut_so : (text entry name : List ℕ) (o p : Options) (m n : ℕ) (g : GraphOf) (why : SolverError) (s : Status) → entry ≡ name → p ≡ o → n ≡ m → HasGraph text entry g → IsCause g p n why → s ≡ status_of_cause m why → IsUnanalysed text name o m s
+cut_so text entry name o p m n g why s is same limit has cause told =
+    subst (λ (t : Status). IsUnanalysed text name o m t) (sym told)
+    (cause_so text name g o m why (subst (λ (e : List ℕ). HasGraph text e g) is has)
+    (subst (λ (k : ℕ). IsCause g o k why) limit (subst (λ (q : Options). IsCause g q n why) same cause)))
 
 -- a certificate
 pub certified_so : (text entry name : List ℕ) (p o : Options) (most n : ℕ) (bytes : List ℕ) → entry ≡ name → p ≡ o → most ≡ n → IsCertified text entry p most bytes → IsCertified text name o n bytes

@@ -29,16 +29,16 @@ text_limit = 4194304
 
 -- how a graph is analysed where the words don't say otherwise
 abbrev pub default_options : Options
-default_options = record { delay = 0; narrow = 2; oct = 16 }
+default_options = record { delay = 0; narrow = 2; oct = 16; packs = false }
 
 abbrev pub default_runs : ℕ
 default_runs = 1000000
 
 abbrev pub options_of : RunOptions → Options
-options_of o = record { delay = o.delay; narrow = o.narrow; oct = o.oct }
+options_of o = record { delay = o.delay; narrow = o.narrow; oct = o.oct; packs = o.packs }
 
 abbrev pub certified_options : CertOptions → Options
-certified_options o = record { delay = o.delay; narrow = o.narrow; oct = o.oct }
+certified_options o = record { delay = o.delay; narrow = o.narrow; oct = o.oct; packs = false }
 
 -- what a command is about: a made text, or what the source tells, of which a check asks that it is a certificate
 abbrev pub text_of : Command → Option (List ℕ) → Option (List ℕ)
@@ -173,6 +173,7 @@ pub record DifferInMeans (a b : RunOptions) : Type 0 where
   pub delay : a.delay ≡ b.delay
   pub narrow : a.narrow ≡ b.narrow
   pub oct : a.oct ≡ b.oct
+  pub packs : a.packs ≡ b.packs
   pub max_runs : a.max_runs ≡ b.max_runs
   pub entry : a.entry ≡ b.entry
   pub points : a.points ≡ b.points

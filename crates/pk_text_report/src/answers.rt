@@ -9,15 +9,14 @@ ghost use Rattle.pk_solver.specs.Bounds.{AreInRange, most_points, most_workers};
 ghost use Rattle.pk_solver.specs.Solved.{IsCause};
 ghost use Rattle.pk_text_report.specs.Answers.{IsRun, IsOrder, IsMade, IsStopped, IsTold, certified_options, default_options, default_runs, options_of};
 
-use pk_cert_report::{certificate_of_text, check};
+use pk_cert_report::{certificate_of_text, check, unanalysed_status};
 use pk_command::{CertOptions, Command, GenOptions, OrderOptions, RunOptions};
 use pk_graph::Graph;
 use pk_graph_report::{order_of, report_of, summary_of};
 use pk_lean_report::lean_report;
-use pk_solver::{IterationOptions, Options, SolverError, states};
+use pk_solver::{IterationOptions, Options, SolverError, prepare, states};
 use pk_status::Status;
 use pk_text_graph::{graph_of_text, graphs_are_few};
-use pk_transfer::frame;
 use pk_workers::Gate;
 use std::alloc::{AllocError, Global};
 use std::sync::Wait;
@@ -27,10 +26,15 @@ use std::thread::Threads;
 const DEFAULT_RUNS: u64 = 1000000;
 
 // How a graph is analysed, where the words say it.
-fn analysis_of(delay: u32, narrow: u32, oct: usize) -> Options
-    ensures { result ≡ record { delay = delay; narrow = narrow; oct = oct } }
+fn analysis_of(delay: u32, narrow: u32, oct: usize, packs: bool) -> Options
+    ensures { result ≡ record { delay = delay; narrow = narrow; oct = oct; packs = packs } }
 {
-    Options { delay, narrow, oct }
+    Options {
+        delay,
+        narrow,
+        oct,
+        packs,
+    }
 }
 
 // How a graph is analysed where the words don't say.
@@ -41,6 +45,7 @@ fn default_analysis() -> Options
         delay: 0,
         narrow: 2,
         oct: 16,
+        packs: false,
     }
 }
 
@@ -52,7 +57,7 @@ fn iteration_of(options: &RunOptions) -> IterationOptions
     ensures range { AreInRange result }
 {
     IterationOptions {
-        analysis: analysis_of(options.delay, options.narrow, options.oct),
+        analysis: analysis_of(options.delay, options.narrow, options.oct, options.packs),
         workers: options.workers,
         max_runs: options.max_runs,
     }
@@ -80,7 +85,7 @@ fn certified_iteration(options: &CertOptions) -> IterationOptions
     ensures range { AreInRange result }
 {
     IterationOptions {
-        analysis: analysis_of(options.delay, options.narrow, options.oct),
+        analysis: analysis_of(options.delay, options.narrow, options.oct, false),
         workers: options.workers,
         max_runs: options.max_runs,
     }
@@ -110,16 +115,9 @@ fn whole_report<R: Threads + Wait + Sync, G: Gate + Sync>(
         IsReport (graph_view graph.now) iteration.now.analysis iteration.now.max_runs all r.1 r.0.items) }
     ensures err { IfErr result (IsCause (graph_view graph.now) iteration.now.analysis iteration.now.max_runs) }
 {
-    let frame = frame(alloc, graph, iteration.analysis.oct)?;
-    let solution = states(rt, alloc, gate, graph, &frame, iteration)?;
-    Ok(report_of(
-        alloc,
-        graph,
-        iteration.analysis,
-        &solution.plan,
-        &solution.states,
-        all,
-    )?)
+    let (plan, frame) = prepare(alloc, graph, iteration)?;
+    let states = states(rt, alloc, gate, graph, &frame, &plan, iteration)?;
+    Ok(report_of(alloc, graph, &plan, &states, all)?)
 }
 
 // The same, where it is asked for by cells that are let go of.
@@ -161,14 +159,13 @@ fn graph_summary<R: Threads + Wait + Sync, G: Gate + Sync>(
         options.now.seed options.now.size text_length r.1 r.0.items) }
     ensures err { IfErr result (IsCause (graph_view graph.now) iteration.now.analysis iteration.now.max_runs) }
 {
-    let frame = frame(alloc, graph, iteration.analysis.oct)?;
-    let solution = states(rt, alloc, gate, graph, &frame, iteration)?;
+    let (plan, frame) = prepare(alloc, graph, iteration)?;
+    let states = states(rt, alloc, gate, graph, &frame, &plan, iteration)?;
     Ok(summary_of(
         alloc,
         graph,
-        iteration.analysis,
-        &solution.plan,
-        &solution.states,
+        &plan,
+        &states,
         options.seed as usize,
         options.size as usize,
         text_length,
@@ -200,10 +197,7 @@ fn run_told<R: Threads + Wait + Sync, G: Gate + Sync>(
         options.lean,
     ) {
         Ok((bytes, unknown)) => Ok((bytes, unknown as u64)),
-        Err(SolverError::RunLimit) => Err(Status::RunLimit {
-            max_runs: options.max_runs,
-        }),
-        Err(SolverError::Memory) => Err(Status::Memory),
+        Err(why) => Err(unanalysed_status(why, options.max_runs)),
     }
 }
 
@@ -234,10 +228,7 @@ fn gen_told<R: Threads + Wait + Sync, G: Gate + Sync>(
     let iteration = default_iteration(options.workers);
     match graph_summary(rt, alloc, gate, &graph, &iteration, options, text.len()) {
         Ok((bytes, unknown)) => Ok((bytes, unknown as u64)),
-        Err(SolverError::RunLimit) => Err(Status::RunLimit {
-            max_runs: DEFAULT_RUNS,
-        }),
-        Err(SolverError::Memory) => Err(Status::Memory),
+        Err(why) => Err(unanalysed_status(why, DEFAULT_RUNS)),
     }
 }
 

@@ -1,4 +1,4 @@
-use Rattle.std.proofs.Common.{◌≡◌, ◌++◌, ◌∷◌, [], map, length, Option, sym, ap, subst, ◌∙◌, arith}
+use Rattle.std.proofs.Common.{◌≡◌, ◌++◌, ◌∷◌, [], map, length, Option, refl, sym, ap, subst, ◌∙◌, arith}
 use Rattle.std.specs.Arc.{arc_value}
 use Rattle.std.proofs.lemmas.List.{length-map, map-append}
 use Rattle.pk_graph.specs.Graphs.{kinds_of}
@@ -7,7 +7,7 @@ use Rattle.pk_state.specs.Layouts.{Layout}
 use Rattle.pk_state.specs.Facts.{Facts, Stated, AreFactsIf}
 use Rattle.pk_phases.specs.declared.equations.Cell.{Cell}
 use Rattle.pk_cert.specs.Rows.{kept_line, row_view}
-use Rattle.pk_cert_states.specs.Lines.{line_of}
+use Rattle.pk_cert_states.specs.Lines.{HasOne, line_of}
 use Rattle.pk_cert_states.proofs.Reading.{none_of, some_of}
 use Rattle.pk_cert_states.proofs.Telling.{as_many}
 use Rattle.pk_cert_cells.specs.Reading.{cell_of, AreCellsOf}
@@ -23,7 +23,7 @@ returns-in-None-clause-cells c = λ lines line size seen h.
     let none = none_of c.in_ok-state_of.field-0 ((f : Option Facts) → AreFactsIf c.args.frame.now f → row_view c.args.row.now ≡ kept_line (line_of (kinds_of (graph_view c.args.graph.now)) f) → ⊥)
     (λ (s : Stated). (s.layout ≡ c.args.frame.now) × (row_view c.args.row.now ≡ kept_line (line_of (kinds_of (graph_view c.args.graph.now)) s.facts))) c.in_ok-state_of.ensures c.in-None.is in
     let many = ap (λ (y : Layout). length y.types) c.requires.frame.1 ∙ as_many (graph_view c.args.graph.now) c.requires.frame.0 in
-    add_stateless ks l lines line cells h same (row_stateless ks l c.args.row.now line many seen none)
+    add_stateless ks l lines line cells h same (row_stateless ks l c.args.row.now line (subst HasOne (sym c.requires.frame.1) refl) many seen none)
 
 pub returns-in_ok-push-in-Some-clause-cells : goal.returns-in_ok-push-in-Some-clause-cells
 returns-in_ok-push-in-Some-clause-cells c = λ lines line size seen h.

@@ -1,6 +1,7 @@
-use Rattle.std.proofs.Common.{◌≡◌, ℕ, List, subst}
+use Rattle.std.proofs.Common.{◌≡◌, ℕ, List, refl, sym, subst}
 use Rattle.std.specs.Prelude.{IfOk}
 use Rattle.pk_graph.specs.Shown.{graph_view}
+use Rattle.pk_cert_states.specs.Lines.{HasOne}
 use Rattle.pk_cert_lines.specs.declared.told.Told.{Told}
 use Rattle.pk_cert_lines.specs.Told.{IsToldIn}
 use Rattle.pk_cert_lines.proofs.Telling.{many_of}
@@ -13,3 +14,6 @@ told_in-requires-clause-many c =
 pub returns : goal.returns
 returns c =
     subst (λ (js : List ℕ). IfOk c.told_in.result (λ (t : Told). (t.state ≡ c.args.state) × IsToldIn js c.args.frame.now t)) c.requires.order c.told_in.ensures
+
+pub told_in-requires-clause-one : goal.told_in-requires-clause-one
+told_in-requires-clause-one c = subst HasOne (sym c.requires.frame.1) refl

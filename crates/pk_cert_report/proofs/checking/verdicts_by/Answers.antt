@@ -1,7 +1,6 @@
-use Rattle.std.proofs.Common.{◌≡◌, ap, refl, length}
+use Rattle.std.proofs.Common.{◌≡◌, ap, length}
 use Rattle.pk_graph.specs.Graphs.{GraphOf}
 use Rattle.pk_graph.specs.Shown.{graph_view}
-use Rattle.pk_analysis.specs.declared.analysis.Options.{Options}
 use Rattle.pk_cert.specs.Heads.{head_view}
 use Rattle.pk_cert_report.proofs.Reducing.{cells_over, counted_over, states_are, states_over, told_over}
 use Rattle.pk_cert_report.proofs.checking.verdicts_by.Goals as goal
@@ -14,9 +13,8 @@ pub checked_of-requires : goal.checked_of-requires
 checked_of-requires c =
     let g = graph_view c.args.graph.now in
     let same : length (graph_view c.in_ok-analysis.analysis.graph).points ≡ length g.points = ap (λ (j : GraphOf). length j.points) c.in_ok-analysis.ensures.graph in
-    let o : Options = record { delay = 0; narrow = 0; oct = c.args.head.now.oct } in
     record {
-      over = states_over g (head_view c.args.head.now) c.args.bytes.now c.args.cells.cells c.requires.read o c.of-states.result refl
+      over = states_over g (head_view c.args.head.now) c.args.bytes.now c.args.cells.cells c.requires.read c.of-states.result c.graphs_law.ensures
           (states_are g (head_view c.args.head.now) c.args.bytes.now c.args.cells.cells c.requires.read c.in_ok-analysis.analysis.layout _ c.of-states.result c.in_ok-analysis.ensures.layout same c.of-states.ensures);
     }
 

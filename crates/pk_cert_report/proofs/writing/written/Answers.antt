@@ -7,6 +7,6 @@ pub returns-in-Err-Limit-clause-err : goal.returns-in-Err-Limit-clause-err
 returns-in-Err-Limit-clause-err c =
     inr (
       overlong_so (graph_view c.args.graph.now) c.args.text.now c.args.entry.now c.as_bytes.result.now c.args.iteration.now.analysis c.args.iteration.now.max_runs c.args.cells.now.cells
-          c.as_bytes.ensures.value c.requires.of_text c.requires.cells (rw c.in-Err-Limit.field-0-is at c.in-Err-Limit.ensures),
+          c.as_bytes.ensures.value c.requires.one_octagon c.requires.of_text c.requires.cells (rw c.in-Err-Limit.field-0-is at c.in-Err-Limit.ensures),
       refl,
     )

@@ -1,6 +1,6 @@
 use Rattle.std.proofs.Common.{◌+◌, sym, subst, arith, List}
 use Rattle.pk_ctypes.specs.declared.types.IntType.{IntType}
-use Rattle.pk_state.specs.Changes.{IsValue}
+use Rattle.pk_octagons.specs.Values.{IsValue}
 use Rattle.pk_value.specs.Known.{Known}
 use Rattle.pk_cert_states.proofs.Writing.{AreInTo, pushed, pushed_all}
 use Rattle.pk_cert_states.proofs.values.any_values.Goals as goal

@@ -1,6 +1,6 @@
 use Rattle.std.proofs.Common.{sym, subst}
 use Rattle.pk_ctypes.specs.declared.types.IntType.{IntType}
-use Rattle.pk_state.specs.Changes.{IsValue}
+use Rattle.pk_octagons.specs.Values.{IsValue}
 use Rattle.pk_cert_states.specs.Parts.{IsFirst}
 use Rattle.pk_cert_states.proofs.Fours.{filled_not, filled_on}
 use Rattle.pk_cert_states.proofs.values.fill_one.Goals as goal

@@ -5,4 +5,4 @@ use Rattle.pk_command.proofs.laws.cert_takes_no_flag.Goals as goal
 
 pub returns : goal.returns
 unfolding clap_on_literals is_taken
-returns c = (refl, refl)
+returns c = (refl, refl, refl)

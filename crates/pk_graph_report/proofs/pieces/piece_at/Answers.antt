@@ -8,7 +8,7 @@ use Rattle.pk_graph_report.proofs.pieces.piece_at.Goals as goal
 
 pub piece_by_state-requires-clause-over : goal.piece_by_state-requires-clause-over
 piece_by_state-requires-clause-over c =
-    over_there (graph_view c.args.graph.now) c.args.options c.args.states.now c.args.point c.in_ok-state.state c.graphs_law.ensures c.requires.over c.requires.point
+    over_there (graph_view c.args.graph.now) c.args.states.now c.args.point c.in_ok-state.state c.requires.over c.requires.point
     (state_so c.args.states.now c.args.point c.in_ok-state.state c.in_ok-state.ensures)
 
 pub returns : goal.returns

@@ -1,33 +1,30 @@
 use Rattle.std.specs.Prelude.{IfOk, IfErr, Bool}
-use Rattle.std.proofs.Common.{◌∙◌, sym, ap, subst}
+use Rattle.std.proofs.Common.{sym, subst}
 use Rattle.pk_graph.specs.Graphs.{GraphOf, kinds_of}
 use Rattle.pk_graph.specs.Shown.{graph_view}
 use Rattle.pk_state.specs.Layouts.{Layout}
-use Rattle.pk_transfer.specs.Graphs.{layout_of}
 use Rattle.pk_transfer.specs.Trees.{IsOver}
 use Rattle.pk_solver.specs.Solved.{IsCause}
 use Rattle.pk_graph_report.specs.Reported.{IsReport}
 use Rattle.pk_lean_report.proofs.Told.{made_so, system_so, heads_so, told_so}
 use Rattle.pk_lean_report.proofs.reports.lean_report.Goals as goal
 
-pub frame-requires : goal.frame-requires
-frame-requires g c = c.requires.range.oct
+pub analysis_of-requires : goal.analysis_of-requires
+analysis_of-requires g c = record { prepared = c.in_ok-plan.ensures.ok }
 
 pub new-requires-clause-graph : goal.new-requires-clause-graph
 new-requires-clause-graph g c = sym c.in_ok-analysis.ensures.graph
 
 pub new-requires-clause-layout : goal.new-requires-clause-layout
-new-requires-clause-layout g c =
-    c.in_ok-frame.ensures ∙ ap (λ (h : GraphOf). layout_of h c.args.options.now.analysis.oct) (sym c.in_ok-analysis.ensures.graph)
-    ∙ sym c.in_ok-analysis.ensures.system.1.analysis.layout
+new-requires-clause-layout g c = sym c.in_ok-analysis.ensures.layout
 
 pub new-requires-clause-over : goal.new-requires-clause-over
 new-requires-clause-over g c =
-    subst (λ (l : Layout). IsOver (kinds_of (graph_view c.args.graph.now)) l) (sym c.in_ok-frame.ensures)
-    (c.graphs_law.ensures.over (graph_view c.args.graph.now) c.args.options.now.analysis.oct)
+    subst (λ (l : Layout). IsOver (kinds_of (graph_view c.args.graph.now)) l) (sym c.in_ok-plan.ensures.ok.layout)
+    (c.layouts_law.ensures.over (graph_view c.args.graph.now) c.in_ok-plan.plan c.args.options.now.analysis)
 
 pub report_by-told-requires-clause-few : goal.report_by-told-requires-clause-few
-report_by-told-requires-clause-few g c κs within = c.in_ok-plan.ensures.few
+report_by-told-requires-clause-few g c κs within = c.in_ok-plan.ensures.ok.elements
 
 pub report_by-told-requires-clause-made : goal.report_by-told-requires-clause-made
 report_by-told-requires-clause-made g c κs within = made_so c.in_ok-analysis.analysis c.in_ok-reporting.reporting c.in_ok-reporting.ensures c.in_ok-analysis.ensures.made

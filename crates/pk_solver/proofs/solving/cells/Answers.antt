@@ -1,9 +1,9 @@
-use Rattle.std.specs.Prelude.{IfOk, IfErr}
+use Rattle.std.specs.Prelude.{IfErr}
 use Rattle.std.proofs.Common.{subst}
 use Rattle.std.proofs.lemmas.Result.{IfOk-weaker}
 use Rattle.pk_graph.specs.Graphs.{GraphOf}
-use Rattle.pk_solver.specs.Solved.{AreCellsOver, AreRawCells, IsCause}
-use Rattle.pk_solver.proofs.Outcomes.{raw_so}
+use Rattle.pk_solver.specs.Solved.{AreRawCells, IsCause}
+use Rattle.pk_solver.proofs.Outcomes.{cells_moved, raw_so}
 use Rattle.pk_solver.proofs.solving.cells.Goals as goal
 
 pub returns-clause-ok : goal.returns-clause-ok
@@ -11,12 +11,12 @@ returns-clause-ok g c =
     let o = c.args.options.now.analysis in
     let most = c.args.options.now.max_runs in
     IfOk-weaker c.cells_by-cells.result _ _
-    (λ it x. subst (λ (h : GraphOf). AreRawCells h o most it.cells) c.in_ok-analysis.ensures.graph (raw_so o c.in_ok-plan.plan c.in_ok-analysis.analysis most it x))
+    (λ it x. subst (λ (h : GraphOf). AreRawCells h o most it.cells) c.in_ok-analysis.ensures.graph (raw_so o c.args.plan.now c.in_ok-analysis.analysis most it x))
     c.cells_by-cells.ensures.ok
 
 pub returns-clause-over : goal.returns-clause-over
 returns-clause-over g c =
-    subst (λ (h : GraphOf). IfOk c.cells_by-cells.result (λ cells. AreCellsOver h c.args.options.now.analysis cells.cells)) c.in_ok-analysis.ensures.graph c.cells_by-cells.ensures.over
+    IfOk-weaker c.cells_by-cells.result _ _ (λ it x. cells_moved it.cells c.in_ok-analysis.ensures.graph c.in_ok-analysis.ensures.layout x) c.cells_by-cells.ensures.over
 
 pub returns-clause-err : goal.returns-clause-err
 returns-clause-err g c =

@@ -1,7 +1,11 @@
-use Rattle.std.proofs.Common.{refl}
+use Rattle.std.proofs.Common.{ap, refl}
+use Rattle.pk_analysis.specs.declared.analysis.Options.{Options}
 use Rattle.pk_text_report.specs.Answers.{certified_options}
 use Rattle.pk_text_report.proofs.Ending.{certified_so, uncertified_so}
 use Rattle.pk_text_report.proofs.answers.cert_told.Goals as goal
+
+pub certificate_of_text-requires-clause-one_octagon : goal.certificate_of_text-requires-clause-one_octagon
+certificate_of_text-requires-clause-one_octagon g c κs within = ap (λ (o : Options). o.packs) c.certified_iteration-iteration.ensures.analysis
 
 pub returns-in-Ok-clause-told : goal.returns-in-Ok-clause-told
 returns-in-Ok-clause-told g c = (

@@ -1,8 +1,8 @@
-use Rattle.std.proofs.Common.{codes, inl, inr, refl}
+use Rattle.std.proofs.Common.{codes, inl, refl}
 use Rattle.pk_graph.specs.Shown.{graph_view}
 use Rattle.pk_cert_report.specs.Causes.{IsUnanalysed}
 use Rattle.pk_text_report.specs.Answers.{default_options, default_runs}
-use Rattle.pk_text_report.proofs.Ending.{cut_so, handed_on, made_so, memory_so}
+use Rattle.pk_text_report.proofs.Ending.{cut_so, handed_on, made_so}
 use Rattle.pk_text_report.proofs.answers.gen_told.Goals as goal
 
 pub returns-in_err-graph-clause-stopped : goal.returns-in_err-graph-clause-stopped
@@ -17,12 +17,7 @@ returns-in-Ok-clause-told g c =
     made_so c.args.text.now (codes "main") c.args.options.now (graph_view c.in_ok-graph.graph) c.default_iteration-iteration.result.analysis c.default_iteration-iteration.result.max_runs _ _ _
     refl c.default_iteration-iteration.ensures.analysis c.default_iteration-iteration.ensures.runs refl c.in_ok-graph.ensures.graph c.in-Ok.ensures.ok
 
-pub returns-in-Err-RunLimit-clause-stopped : goal.returns-in-Err-RunLimit-clause-stopped
-returns-in-Err-RunLimit-clause-stopped g c = inr (
-  cut_so c.args.text.now (codes "main") (codes "main") default_options c.default_iteration-iteration.result.analysis default_runs c.default_iteration-iteration.result.max_runs (graph_view c.in_ok-graph.graph)
-      refl c.default_iteration-iteration.ensures.analysis c.default_iteration-iteration.ensures.runs c.in_ok-graph.ensures.graph (rw c.in-Err-RunLimit.field-0-is at c.in-Err-RunLimit.ensures.err),
-  refl,
-)
-
 pub returns-clause-stopped : goal.returns-clause-stopped
-returns-clause-stopped g c = inl (memory_so c.args.text.now (codes "main"))
+returns-clause-stopped g c =
+    cut_so c.args.text.now (codes "main") (codes "main") default_options c.default_iteration-iteration.result.analysis default_runs c.default_iteration-iteration.result.max_runs (graph_view c.in_ok-graph.graph)
+    c.in-Err.why c.unanalysed_status.result refl c.default_iteration-iteration.ensures.analysis c.default_iteration-iteration.ensures.runs c.in_ok-graph.ensures.graph c.in-Err.ensures.err c.unanalysed_status.ensures

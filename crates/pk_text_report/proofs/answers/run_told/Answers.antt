@@ -1,8 +1,8 @@
-use Rattle.std.proofs.Common.{inl, inr, refl}
+use Rattle.std.proofs.Common.{inl}
 use Rattle.pk_graph.specs.Shown.{graph_view}
 use Rattle.pk_cert_report.specs.Causes.{IsUnanalysed}
 use Rattle.pk_text_report.specs.Answers.{options_of}
-use Rattle.pk_text_report.proofs.Ending.{cut_so, handed_on, memory_so, run_so}
+use Rattle.pk_text_report.proofs.Ending.{cut_so, handed_on, run_so}
 use Rattle.pk_text_report.proofs.answers.run_told.Goals as goal
 
 pub returns-in_err-graph-clause-stopped : goal.returns-in_err-graph-clause-stopped
@@ -17,12 +17,7 @@ returns-in-Ok-clause-told g c =
     run_so c.args.text.now c.as_str.result.now c.args.options.now (graph_view c.in_ok-graph.graph) c.iteration_of-iteration.result.analysis c.iteration_of-iteration.result.max_runs _ _
     c.as_str.ensures c.iteration_of-iteration.ensures.analysis c.iteration_of-iteration.ensures.runs c.in_ok-graph.ensures.graph c.in-Ok.ensures.ok
 
-pub returns-in-Err-RunLimit-clause-stopped : goal.returns-in-Err-RunLimit-clause-stopped
-returns-in-Err-RunLimit-clause-stopped g c = inr (
-  cut_so c.args.text.now c.as_str.result.now c.args.options.now.entry (options_of c.args.options.now) c.iteration_of-iteration.result.analysis c.args.options.now.max_runs c.iteration_of-iteration.result.max_runs (graph_view c.in_ok-graph.graph)
-      c.as_str.ensures c.iteration_of-iteration.ensures.analysis c.iteration_of-iteration.ensures.runs c.in_ok-graph.ensures.graph (rw c.in-Err-RunLimit.field-0-is at c.in-Err-RunLimit.ensures.err),
-  refl,
-)
-
 pub returns-clause-stopped : goal.returns-clause-stopped
-returns-clause-stopped g c = inl (memory_so c.args.text.now c.args.options.now.entry)
+returns-clause-stopped g c =
+    cut_so c.args.text.now c.as_str.result.now c.args.options.now.entry (options_of c.args.options.now) c.iteration_of-iteration.result.analysis c.args.options.now.max_runs c.iteration_of-iteration.result.max_runs (graph_view c.in_ok-graph.graph)
+    c.in-Err.why c.unanalysed_status.result c.as_str.ensures c.iteration_of-iteration.ensures.analysis c.iteration_of-iteration.ensures.runs c.in_ok-graph.ensures.graph c.in-Err.ensures.err c.unanalysed_status.ensures

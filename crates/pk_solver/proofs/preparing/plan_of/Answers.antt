@@ -2,7 +2,7 @@ use Rattle.pk_graph.specs.Shown.{graph_view}
 use Rattle.pk_analysis.specs.Digraphs.{digraph_of}
 use Rattle.pk_solver.proofs.Solved.{few_so, order_of}
 use Rattle.pk_solver.specs.Bounds.{most_points}
-use Rattle.pk_solver.proofs.solving.plan_of.Goals as goal
+use Rattle.pk_solver.proofs.preparing.plan_of.Goals as goal
 
 pub returns-clause-ordered : goal.returns-clause-ordered
 returns-clause-ordered c =
