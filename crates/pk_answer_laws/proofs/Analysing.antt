@@ -1,7 +1,8 @@
 -- The analysis of a graph, and how it ends.
-use Rattle.std.proofs.Common.{◌≡◌, ◌⊎◌, inl, inr, ℕ, zero, suc, ◌+◌, ◌*◌, ◌<◌, ◌^◌, List, [], ◌∷◌, ◌++◌, length, map, refl, sym, ap, subst, ◌∙◌, arith, zero-add, Contains, All}
+use Rattle.std.proofs.Common.{◌≡◌, ◌⊎◌, inl, inr, true, ℕ, zero, suc, ◌+◌, ◌*◌, ◌<◌, ◌^◌, List, [], ◌∷◌, ◌++◌, length, map, refl, sym, ap, subst, ◌∙◌, arith, zero-add, Contains, All}
 use Rattle.std.specs.Prelude.{take}
 use Rattle.std.specs.List.{slice_index_or, range_with_len}
+use Rattle.std.proofs.lemmas.Bool.{cases_Bool, cases_lt}
 use Rattle.std.proofs.lemmas.List.{map-append, length-map, get_or-map}
 use Rattle.std.proofs.lemmas.List.FromFn.{length-map-range_with_len, get_or-map-range_with_len}
 use Rattle.std.proofs.lemmas.List.Elements.{All-nil, All-head, All-tail, All-map, All-contains}
@@ -9,7 +10,6 @@ use Rattle.pk_graph.specs.Accesses.{accesses_of}
 use Rattle.pk_graph.specs.Graphs.{EdgeOf, PointOf, GraphOf, no_point, point_at}
 use Rattle.pk_graph.specs.WellMade.{IsGraph, IsPointOf, IsEdgeOf}
 use Rattle.pk_state.specs.Facts.{Stated}
-use Rattle.pk_transfer.specs.Graphs.{layout_of}
 use Rattle.pk_plan.specs.declared.places.Place.{Place}
 use Rattle.pk_plan.specs.declared.places.Role.TheVariants.{Exit}
 use Rattle.pk_plan.specs.Digraphs.{IsClosed}
@@ -17,6 +17,7 @@ use Rattle.pk_plan.specs.Order.{Level, Empty, Vertex_then, Component_then, place
 use Rattle.pk_plan.specs.Plans.{PlanView}
 use Rattle.pk_plan.specs.Linear.{elements_of}
 use Rattle.pk_order.specs.Ordered.{IsOrdered, heads_of}
+use Rattle.pk_packs.specs.Packs.{pack_count, pack_limit}
 use Rattle.pk_order_laws.specs.Digraphs.{EveryDigraphHasAnOrder}
 use Rattle.pk_iterate.specs.Behaviour.{Behaviour}
 use Rattle.pk_iterate.specs.Iteration.{count_of, cell_after, progress}
@@ -32,10 +33,11 @@ use Rattle.pk_phases.specs.Equations.{behaviour_of}
 use Rattle.pk_analysis.specs.declared.analysis.Options.{Options}
 use Rattle.pk_analysis.specs.Digraphs.{targets_of, digraph_of}
 use Rattle.pk_analysis.specs.Flows.{Flow, equations_of, reduced_cell}
+use Rattle.pk_analysis.specs.Layouts.{layout_for, HasFewPacks}
 use Rattle.pk_analysis.specs.Made.{IsAnalysisOf}
 use Rattle.pk_analysis.specs.Parts.{part_in, AreParts}
 use Rattle.pk_report.specs.Reports.{report_text, summary_text, unknown_in}
-use Rattle.pk_analysis_laws.specs.Systems.{IsOver}
+use Rattle.pk_analysis_laws.specs.Systems.{HasManyPacks, IsOver}
 use Rattle.pk_solver.specs.Solved.{AreStates}
 use Rattle.pk_peak.specs.Texts.{order_lines}
 use Rattle.pk_graph_report.specs.Reported.{verdicts_of}
@@ -98,10 +100,17 @@ are_parts p = record {
 
 module _ (g : GraphOf) (o : Options) (p : PlanView) (room : HasRoom g) where
   abbrev flow_of : Flow
-  flow_of = record { graph = room.value; layout = layout_of g o.oct; thresholds = thresholds_of g; parts = parts_of p; delay = o.delay; narrow = o.narrow }
+  flow_of = record { graph = room.value; layout = layout_for g p o; thresholds = thresholds_of g; parts = parts_of p; delay = o.delay; narrow = o.narrow }
 
-  is_analysis : IsAnalysisOf g p o flow_of
-  is_analysis = record { graph = room.shows; layout = refl; thresholds = are_thresholds g; parts = are_parts p; delay = refl; narrow = refl }
+  is_analysis : HasFewPacks p o → IsAnalysisOf g p o flow_of
+  is_analysis few = record { graph = room.shows; layout = refl; few = few; thresholds = are_thresholds g; parts = are_parts p; delay = refl; narrow = refl }
+
+-- packs are asked for, and there are too many, or there aren't
+many_or_few : (o : Options) (p : PlanView) → ((o.packs ≡ true) × (pack_limit < pack_count p)) ⊎ HasFewPacks p o
+many_or_few o p = elim (cases_Bool o.packs) [
+  | inl asked ↦ elim (cases_lt pack_limit (pack_count p)) [ inl many ↦ inl (asked, many) | inr few ↦ inr (λ e. few) ]
+  | inr one ↦ inr (λ asked. absurd (cc))
+]
 
 -- ---- the iteration
 
@@ -127,30 +136,40 @@ over_or_result b order elements most within = elim (past_or_not (count_of (progr
 
 -- ---- the report
 
-pub analysed : EveryDigraphHasAnOrder → (g : GraphOf) (o : Options) (most : ℕ) → IsGraph g → HasRoom g → ((p : PlanView) × (states : List Stated) × AreStates g o most p states) ⊎ IsOver g o most
+-- the states of a graph, or an element that would be run too often, where there aren't too many packs
+iterated : (g : GraphOf) (o : Options) (most : ℕ) → HasRoom g → (p : PlanView) (order : Level) → IsOrdered (digraph_of g) p order → HasFewPacks p o
+    → ((p : PlanView) × (states : List Stated) × AreStates g o most p states) ⊎ IsOver g o most
+iterated g o most room p order ordered few =
+    let flow = flow_of g o p room in
+    let b : Behaviour (Cell Stated) = behaviour_of (equations_of flow) in
+    elim (over_or_result b order p.elements most (places_within order p.elements ordered.is_linear.within)) [
+      | inl over ↦ inr (record { plan = p; order = order; flow = flow; system = record { ordered = ordered; analysis = is_analysis g o p room few }; over = over })
+      | inr result ↦
+          let outcome = outcome_of b order p.elements most in
+          inl (
+            p,
+            map (reduced_cell flow) (take (length g.points) outcome.cells),
+            record { order = order; flow = flow; system = record { ordered = ordered; analysis = is_analysis g o p room few }; outcome = outcome; result = result; reduced = refl },
+          )
+    ]
+
+pub analysed : EveryDigraphHasAnOrder → (g : GraphOf) (o : Options) (most : ℕ) → IsGraph g → HasRoom g
+    → ((p : PlanView) × (states : List Stated) × AreStates g o most p states) ⊎ (HasManyPacks g o ⊎ IsOver g o most)
 analysed law g o most made room =
     let x = order_of law g made in
-    let flow = flow_of g o x.0 room in
-    let b : Behaviour (Cell Stated) = behaviour_of (equations_of flow) in
-    elim (over_or_result b x.1 x.0.elements most (places_within x.1 x.0.elements x.2.is_linear.within)) [
-      | inl over ↦ inr (record { plan = x.0; order = x.1; flow = flow; system = record { ordered = x.2; analysis = is_analysis g o x.0 room }; over = over })
-      | inr result ↦
-          let outcome = outcome_of b x.1 x.0.elements most in
-          inl (
-            x.0,
-            map (reduced_cell flow) (take (length g.points) outcome.cells),
-            record { order = x.1; flow = flow; system = record { ordered = x.2; analysis = is_analysis g o x.0 room }; outcome = outcome; result = result; reduced = refl },
-          )
+    elim (many_or_few o x.0) [
+      | inl (asked, many) ↦ inr (inl (record { plan = x.0; order = x.1; ordered = x.2; asked = asked; many = many }))
+      | inr few ↦ elim (iterated g o most room x.0 x.1 x.2 few) [ inl states ↦ inl states | inr over ↦ inr (inr over) ]
     ]
 
 pub reported : EveryDigraphHasAnOrder → EveryGraphIsReported
 reported law g o most all made room = elim (analysed law g o most made room) [
   | inl x ↦ inl (unknown_in (verdicts_of g x.1), report_text all g (heads_of x.0) x.0.elements x.1 (accesses_of g) (verdicts_of g x.1), record { plan = x.0; states = x.1; are_states = x.2; counted = refl; told = refl })
-  | inr over ↦ inr over
+  | inr none ↦ inr none
 ]
 
 pub summed : EveryDigraphHasAnOrder → EveryGraphIsSummed
 summed law g o most seed size text_length made room = elim (analysed law g o most made room) [
   | inl x ↦ inl (unknown_in (verdicts_of g x.1), summary_text seed size text_length g x.0.elements (verdicts_of g x.1), record { plan = x.0; states = x.1; are_states = x.2; counted = refl; told = refl })
-  | inr over ↦ inr over
+  | inr none ↦ inr none
 ]

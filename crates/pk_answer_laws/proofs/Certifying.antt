@@ -1,20 +1,23 @@
 -- The certificate of a text is checked well.
-use Rattle.std.specs.Prelude.{◌≡◌, ℕ, ◌<◌, ◌≤◌, ◌^◌, Bool, List, [], ◌∷◌, ◌++◌, length, map, drop, take, Option}
+use Rattle.std.specs.Prelude.{◌≡◌, ℕ, ◌<◌, ◌≤◌, ◌^◌, Bool, false, if◌then◌else◌, List, [], ◌∷◌, ◌++◌, length, map, drop, take}
 use Rattle.std.specs.List.{flat_map, zip, range_with_len}
 use Rattle.std.proofs.Common.{arith, refl, sym, ap, subst, ◌∙◌, append_assoc}
 use Rattle.std.proofs.Math.Seq.{drop-append_seam}
-use Rattle.pk_command.specs.declared.asked.Command.TheVariants.{Cert}
 use Rattle.pk_graph.specs.declared.verdicts.Verdict.{Verdict}
 use Rattle.pk_graph.specs.Accesses.{accesses_of}
 use Rattle.pk_graph.specs.Graphs.{GraphOf, kinds_of}
+use Rattle.pk_graph.specs.OctagonVariables.{octagon_variables_of}
 use Rattle.pk_graph.specs.WellMade.{IsGraph}
 use Rattle.pk_state.specs.Layouts.{Layout}
 use Rattle.pk_state.specs.Facts.{Stated}
-use Rattle.pk_transfer.specs.Graphs.{layout_of}
+use Rattle.pk_transfer.specs.Graphs.{layout_of, layout_over}
+use Rattle.pk_plan.specs.Plans.{PlanView}
 use Rattle.pk_order.specs.Ordered.{heads_of}
 use Rattle.pk_phases.specs.declared.equations.Cell.{Cell}
 use Rattle.pk_analysis.specs.declared.analysis.Options.{Options}
+use Rattle.pk_packs.specs.Packs.{packs_of}
 use Rattle.pk_analysis.specs.Flows.{reduced_over}
+use Rattle.pk_analysis.specs.Layouts.{layout_for}
 use Rattle.pk_solver.specs.Solved.{AreRawCells, RawCellsAreDetermined}
 use Rattle.pk_report.specs.Reports.{access_line, first_line, last_line, told_lines, unknown_in, valid_line}
 use Rattle.pk_graph_report.specs.Reported.{IsReport, verdicts_of}
@@ -48,16 +51,19 @@ begins_with h bytes rest is e = record {
 }
 
 -- what is left of a run checks well
-checks_well : ResultsCheckWell → (g : GraphOf) (o : Options) (most : ℕ) (cells : List (Cell Stated)) → IsGraph g → o.oct < 2 ^ 31 → AreRawCells g o most cells → ChecksWell g o.oct (facts_in (layout_of g o.oct) (length g.points) cells)
-checks_well law g o most cells made small are =
+checks_well : ResultsCheckWell → (g : GraphOf) (o : Options) (most : ℕ) (cells : List (Cell Stated)) → IsGraph g → o.oct < 2 ^ 31 → o.packs ≡ false → AreRawCells g o most cells → ChecksWell g o.oct (facts_in (layout_of g o.oct) (length g.points) cells)
+checks_well law g o most cells made small one are =
     subst (λ (cs : List (Cell Stated)). ChecksWell g o.oct (facts_in (layout_of g o.oct) (length g.points) cs)) (sym are.cells_are)
-    (law g o are.plan are.order are.flow most are.outcome (record { graph = made; oct = small; analysis = are.system.analysis; ordered = are.system.ordered; result = are.result }))
+    (law g o are.plan are.order are.flow most are.outcome (record { graph = made; oct = small; analysis = are.system.analysis; ordered = are.system.ordered; result = are.result }) one)
+
+with_one : (g : GraphOf) (p : PlanView) (o : Options) → o.packs ≡ false → layout_for g p o ≡ layout_of g o.oct
+with_one g p o one = ap (λ (b : Bool). layout_over g (if b then packs_of g p o.oct else octagon_variables_of g o.oct ∷ [])) one
 
 -- the last lines of a report
-ends_so : RawCellsAreDetermined → (g : GraphOf) (o : Options) (most : ℕ) (cells : List (Cell Stated)) → AreRawCells g o most cells → (all : Bool) (number : ℕ) (report : List ℕ) → IsReport g o most all number report
+ends_so : RawCellsAreDetermined → (g : GraphOf) (o : Options) (most : ℕ) (cells : List (Cell Stated)) → o.packs ≡ false → AreRawCells g o most cells → (all : Bool) (number : ℕ) (report : List ℕ) → IsReport g o most all number report
     → let vs = verdicts_of g (map (reduced_over (layout_of g o.oct)) (take (length g.points) cells)) in EndsSo g vs (unknown_in vs) number report
-ends_so raw g o most cells are all number report r =
-    let same = raw.states g o most r.plan cells r.states are r.are_states in
+ends_so raw g o most cells one are all number report r =
+    let same = raw.states g o most r.plan cells r.states are r.are_states ∙ ap (λ (l : Layout). map (reduced_over l) (take (length g.points) cells)) (with_one g r.plan o one) in
     let front = first_line g r.plan.elements ++ flat_map (told_lines all g (heads_of r.plan) r.states) (range_with_len 0 (length g.points)) in
     let vs = verdicts_of g (map (reduced_over (layout_of g o.oct)) (take (length g.points) cells)) in
     record {
@@ -77,7 +83,7 @@ certificates_checked law raw made names text o bytes range reply =
     let h = head_of text o.oct o.entry in
     let l = layout_of g o.oct in
     let known = facts_in l (length g.points) x.cells in
-    let well = checks_well law g (certified_options o) o.max_runs x.cells (made text o.entry g x.has_graph) (few o.oct range.4) x.are in
+    let well = checks_well law g (certified_options o) o.max_runs x.cells (made text o.entry g x.has_graph) (few o.oct range.4) refl x.are in
     let is : IsHead h = record { few = short; oct = range.4; entry = names text o.entry x.has_graph.unit x.has_graph.paths x.has_graph.called } in
     let begins = begins_with h bytes (lines_text (map (line_of (kinds_of g)) known)) is x.told in
     let vs = verdicts_of g (map (reduced_over l) (take (length g.points) x.cells)) in
@@ -101,5 +107,5 @@ certificates_checked law raw made names text o bytes range reply =
               ∙ ap (λ (us : List Verdict). valid_line g ++ flat_map (access_line g.paths) (zip (accesses_of g) us) ++ last_line us) same;
         },
       );
-      reports = ends_so raw g (certified_options o) o.max_runs x.cells x.are;
+      reports = ends_so raw g (certified_options o) o.max_runs x.cells refl x.are;
     }

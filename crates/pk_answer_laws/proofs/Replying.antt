@@ -1,7 +1,7 @@
 -- From the end of a text to the reply, and from the words to the answer.
 use Rattle.std.proofs.Common.{◌≢◌, ◌⊎◌, inl, inr, ℕ, ◌++◌, List, [], length, codes, refl, false}
 use Rattle.std.proofs.lemmas.Bool.{cases_Bool, cases_lt}
-use Rattle.pk_ctypes.specs.declared.words.Quantity.TheVariants.{Points}
+use Rattle.pk_ctypes.specs.declared.words.Quantity.TheVariants.{Points, Packs}
 use Rattle.pk_command.specs.declared.asked.Command.{Command}
 use Rattle.pk_command.specs.declared.asked.Command.TheVariants.{Run, Order, Gen, Cert, Check}
 use Rattle.pk_command.specs.declared.asked.RunOptions.{RunOptions}
@@ -24,6 +24,7 @@ use Rattle.pk_cert_cells.specs.Cells.{head_of, cells_text, most_bytes}
 use Rattle.pk_cert_report.specs.Causes.{IsUngraphed}
 use Rattle.pk_cert_report.specs.Written.{IsCertificateOf}
 use Rattle.pk_state.specs.Facts.{Stated}
+use Rattle.pk_packs.specs.Packs.{pack_limit}
 use Rattle.pk_phases.specs.declared.equations.Cell.{Cell}
 use Rattle.pk_solver.specs.Solved.{AreRawCells}
 use Rattle.pk_text_report.specs.Answers.{IsShort, IsLong, IsStopped, certified_options, default_options, default_runs, limit_of, options_of, text_limit}
@@ -69,20 +70,22 @@ orders law ends made text o = unless_long (Order o) text (λ short. ended (Order
 runs : EveryGraphIsReported → GraphsAreWellMade → (text : List ℕ) (o : RunOptions) → GraphsHaveRoom text → IsShort text (Run o) → (g : GraphOf) → HasGraph text o.entry g → HasReply (Run o) text
 runs law made text o room short g h = elim (law g (options_of o) o.max_runs o.points (made text o.entry g h) (room o.entry g h)) [
   | inl x ↦ record { status = status.Ok x.0; bytes = x.1; reply = (short, record { graph = g; has_graph = h; report = x.2 }) }
-  | inr over ↦ record { status = status.RunLimit o.max_runs; bytes = []; reply = (inr (short, inr (record { graph = g; has_graph = h; over = over }, refl)), refl) }
+  | inr (inl many) ↦ record { status = status.Limit Packs pack_limit; bytes = []; reply = (inr (short, inr (inl (record { graph = g; has_graph = h; many = many }, refl))), refl) }
+  | inr (inr over) ↦ record { status = status.RunLimit o.max_runs; bytes = []; reply = (inr (short, inr (inr (record { graph = g; has_graph = h; over = over }, refl))), refl) }
 ]
 
 made_texts : EveryGraphIsSummed → GraphsAreWellMade → (text : List ℕ) (o : GenOptions) → GraphsHaveRoom text → IsShort text (Gen o) → (g : GraphOf) → HasGraph text (codes "main") g → HasReply (Gen o) text
 made_texts law made text o room short g h = elim (law g default_options default_runs o.seed o.size (length text) (made text (codes "main") g h) (room (codes "main") g h)) [
   | inl x ↦ record { status = status.Ok x.0; bytes = x.1; reply = (short, record { graph = g; has_graph = h; summary = x.2 }) }
-  | inr over ↦ record { status = status.RunLimit default_runs; bytes = []; reply = (inr (short, inr (record { graph = g; has_graph = h; over = over }, refl)), refl) }
+  | inr (inl many) ↦ record { status = status.Limit Packs pack_limit; bytes = []; reply = (inr (short, inr (inl (record { graph = g; has_graph = h; many = many }, refl))), refl) }
+  | inr (inr over) ↦ record { status = status.RunLimit default_runs; bytes = []; reply = (inr (short, inr (inr (record { graph = g; has_graph = h; over = over }, refl))), refl) }
 ]
 
 -- a certificate, if it isn't too long
 certified : (text : List ℕ) (o : CertOptions) (g : GraphOf) (cells : List (Cell Stated)) → IsShort text (Cert o) → HasGraph text o.entry g → AreRawCells g (certified_options o) o.max_runs cells → HasReply (Cert o) text
 certified text o g cells short h are =
     let bytes = cells_text g (head_of text o.oct o.entry) cells in
-    let certificate : IsCertificateOf text o.entry (certified_options o) o.max_runs bytes = record { graph = g; has_graph = h; cells = cells; are = are; told = refl } in
+    let certificate : IsCertificateOf text o.entry (certified_options o) o.max_runs bytes = record { one_octagon = refl; graph = g; has_graph = h; cells = cells; are = are; told = refl } in
     elim (cases_lt most_bytes (length bytes)) [
       | inl many ↦ record { status = status.CertLimit; bytes = []; reply = (inr (short, inr (record { bytes = bytes; certificate = certificate; many = many }, refl)), refl) }
       | inr few ↦ record { status = status.Ok 0; bytes = bytes; reply = (short, (record { certificate = certificate; few = few }, refl)) }
@@ -93,7 +96,8 @@ certificates law made text o room short g h = elim (law g (certified_options o) 
   | inl x ↦
       let are = x.2.are_states in
       certified text o g are.outcome.cells short h (record { plan = x.2.plan; order = are.order; flow = are.flow; system = are.system; outcome = are.outcome; result = are.result; cells_are = refl })
-  | inr over ↦ record { status = status.RunLimit o.max_runs; bytes = []; reply = (inr (short, inl (inr (record { graph = g; has_graph = h; over = over }, refl))), refl) }
+  | inr (inl many) ↦ record { status = status.Limit Packs pack_limit; bytes = []; reply = (inr (short, inl (inr (inl (record { graph = g; has_graph = h; many = many }, refl)))), refl) }
+  | inr (inr over) ↦ record { status = status.RunLimit o.max_runs; bytes = []; reply = (inr (short, inl (inr (inr (record { graph = g; has_graph = h; over = over }, refl)))), refl) }
 ]
 
 pub commands : OrdersAreAnswered → EveryGraphIsReported → EveryGraphIsSummed → EveryTextEnds → GraphsAreWellMade → ChecksAreAnswered → CommandsAreAnswered

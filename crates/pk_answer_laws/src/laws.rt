@@ -30,7 +30,7 @@ pub fn every_graph_is_ordered()
     every_digraph_has_an_order();
 }
 
-/// Every graph that memory has room for has a report, or some element would be run too often.
+/// Every graph that memory has room for has a report, or too many packs, or some element would be run too often.
 pub fn every_graph_is_reported()
     ensures { EveryGraphIsReported }
 {
@@ -44,7 +44,7 @@ pub fn every_graph_is_summed()
     every_digraph_has_an_order();
 }
 
-/// Where the run limit is enough, it has a report.
+/// Where the run limit is enough, it has a report, unless it has too many packs.
 pub fn enough_is_reported()
     ensures { EnoughIsReported }
 {

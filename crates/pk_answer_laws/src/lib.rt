@@ -1,4 +1,4 @@
-//! Every graph has a report or is cut off, and words and a text have an answer.
+//! Every graph has a report, has too many packs or is cut off, and words and a text have an answer.
 #![tactic(auto)]
 
 mod laws;

@@ -1,12 +1,12 @@
--- Layouts of graphs can be told: a variable with a slot for each number has few, and the octagon is over scalars.
-use Rattle.std.proofs.Common.{◌≡◌, ◌<◌, ◌+◌, ◌^◌, ℕ, zero, suc, refl, ap, subst, ◌∙◌, sym, Bool, true, false, ◌==◌, if◌then◌else◌, List, [], ◌∷◌, length, slice_index_or, Option, Some, None, arith}
+-- Layouts of graphs can be told: a variable with a slot for each number has few, and the octagons are over scalars.
+use Rattle.std.proofs.Common.{◌≡◌, ◌<◌, ◌+◌, ◌^◌, ℕ, zero, suc, refl, ap, ◌∙◌, sym, Bool, true, false, if◌then◌else◌, List, [], ◌∷◌, length, slice_index_or, Option, Some, None, arith}
 use Rattle.std.specs.Prelude.{is_some}
-use Rattle.std.specs.Option.{option_map}
 use Rattle.std.proofs.Math.ListN.{get_or-map}
-use Rattle.std.proofs.lemmas.Bool.{leb-true, eqb-true}
+use Rattle.std.proofs.lemmas.Bool.{leb-true}
 use Rattle.pk_graph.specs.Kinds.{Kind, Kinds, count_of, kind_at}
 use Rattle.pk_graph.specs.Graphs.{VariableOf, GraphOf, no_variable, variable_at, kinds_of}
-use Rattle.pk_state.specs.Layouts.{Layout, is_spread, place_in}
+use Rattle.pk_octagons.proofs.Chosen.{chosen_there}
+use Rattle.pk_state.specs.Layouts.{Layout, is_spread}
 use Rattle.pk_transfer.specs.Slots.{is_small, further_count, further_from}
 use Rattle.pk_transfer.specs.Trees.{IsOver}
 use Rattle.pk_report.specs.Reports.{no_state}
@@ -28,36 +28,14 @@ small : (o : Option ℕ) → is_small o ≡ true → count_of o < 2 ^ 64
 small None e = omega arith
 small (Some n) e = let few = leb-true n 8 e in omega (arith, few)
 
-record IsPlacedAt (ys : List ℕ) (x k : ℕ) : Type 0 where
-  below : k < length ys
-  is : slice_index_or ys k 0 ≡ x
-
-placed_at : (ys : List ℕ) (x k : ℕ) → place_in ys x ≡ Some k → IsPlacedAt ys x k
-placed_at [] x k e = absurd (cc e)
-placed_at (y ∷ ys) x k e = told (y == x) refl (place_in ys x) (λ j f. placed_at ys x j f) e
-  where
-    told : (b : Bool) → b ≡ (y == x) → (o : Option ℕ) → ((j : ℕ) → o ≡ Some j → IsPlacedAt ys x j) → (if b then Some 0 else option_map suc o) ≡ Some k → IsPlacedAt (y ∷ ys) x k
-    told true same o f g =
-        let first : 0 ≡ k = cc g in
-        subst (IsPlacedAt (y ∷ ys) x) first (record { below = omega arith; is = eqb-true y x (sym same) })
-    told false same None f g = absurd (cc g)
-    told false same (Some j) f g =
-        let next : suc j ≡ k = cc g in
-        let there = f j refl in
-        subst (IsPlacedAt (y ∷ ys) x) next (record { below = omega (arith, there.below); is = there.is })
-
 pub layout_told : (g : GraphOf) (l : Layout) → IsOver (kinds_of g) l → IsTellableLayout g l
 layout_told g l over = record {
   few = λ x e. small (variable_at g x).kind.length (sym (spread x) ∙ e);
-  apart = λ x k e.
-      let place = placed_at l.chosen x k e in
-      spread_is (kinds_of g) l over x
-      ∙ ap (λ (y : ℕ). is_small (kind_at (kinds_of g) y).length) (sym place.is)
-      ∙ ap is_small (over.scalars k place.below).scalar;
+  apart = λ x e. spread_is (kinds_of g) l over x ∙ ap is_small (over.scalars x (chosen_there l.packs x e)).scalar;
 }
   where
     spread : (x : ℕ) → is_spread l x ≡ is_small (variable_at g x).kind.length
     spread x = spread_is (kinds_of g) l over x ∙ ap (λ (k : Kind). is_small k.length) (get_or-map (λ (v : VariableOf). v.kind) g.variables x no_variable)
 
 pub nothing_told : (g : GraphOf) → IsTellableLayout g no_state.layout
-nothing_told g = record { few = λ x e. absurd (cc e); apart = λ x k e. absurd (cc e) }
+nothing_told g = record { few = λ x e. absurd (cc e); apart = λ x e. absurd (cc e) }

@@ -93,11 +93,12 @@ module _ (g : GraphOf) (o : Options) (most : ℕ) (p : PlanView) (states : List 
   no_point : (v : ℕ) → length g.points ≤ v → state_at states v ≡ no_state
   no_point v l = get_or_past states v no_state (omega (arith, l, many))
 
-  state_by : (v : ℕ) → (v < length g.points) ⊎ (length g.points ≤ v) → AreTellable (state_at states v).facts
-  state_by v (inl l) = facts_are_tellable x.flow.layout (state_at states v).facts (facts_are v l)
-  state_by v (inr l) = subst (λ (t : Stated). AreTellable t.facts) (sym (no_point v l)) tt
+  state_by : (v : ℕ) → (v < length g.points) ⊎ (length g.points ≤ v) → AreTellable (state_at states v).layout (state_at states v).facts
+  state_by v (inl l) =
+      subst (λ (y : Layout). AreTellable y (state_at states v).facts) (sym (layout_is v l)) (facts_are_tellable x.flow.layout (state_at states v).facts (facts_are v l))
+  state_by v (inr l) = subst (λ (t : Stated). AreTellable t.layout t.facts) (sym (no_point v l)) tt
 
-  pub states_told : (v : ℕ) → AreTellable (state_at states v).facts
+  pub states_told : (v : ℕ) → AreTellable (state_at states v).layout (state_at states v).facts
   states_told v = state_by v (cases_lt v (length g.points))
 
   layout_by : (v : ℕ) → (v < length g.points) ⊎ (length g.points ≤ v) → IsTellableLayout g (state_at states v).layout

@@ -16,7 +16,8 @@ use Rattle.pk_graph.specs.Accesses.{OperationOf, Index, Divisor, Negation, Resul
 use Rattle.pk_value.specs.Known.{Known}
 use Rattle.pk_state.specs.Layouts.{Layout}
 use Rattle.pk_state.specs.Facts.{Facts, AreFactsIf}
-use Rattle.pk_state.specs.Changes.{known_in, IsValue}
+use Rattle.pk_octagons.specs.Values.{IsValue}
+use Rattle.pk_state.specs.Changes.{known_in}
 use Rattle.pk_transfer.specs.Trees.{tree_known, kinds_of}
 use Rattle.pk_transfer.specs.Transfers.{transferred}
 use Rattle.pk_transfer.proofs.Told.{in_wider, right_wider}

@@ -2,14 +2,15 @@
 use Rattle.std.proofs.Common.{subst, ◌≡◌, ◌∙◌, ℕ, refl, sym, ap, List, [], ◌∷◌, ◌++◌, length, map, Bool, true, false, cond, Option, Some, None, append_assoc}
 use Rattle.std.specs.Prelude.{◌||◌}
 use Rattle.std.specs.Option.{option_map}
-use Rattle.std.specs.List.{flat_map, filter_map, cons_option, range_with_len, zip}
+use Rattle.std.specs.List.{flat_map, range_with_len, zip}
 use Rattle.pk_graph.specs.declared.verdicts.Verdict.{Verdict}
 use Rattle.pk_graph.specs.Accesses.{AccessOf}
 use Rattle.pk_graph.specs.Graphs.{PathOf, GraphOf}
 use Rattle.pk_graph.specs.Visible.{visible_at}
-use Rattle.pk_state.specs.Layouts.{Layout, place_in}
+use Rattle.pk_octagons.specs.Packs.{is_chosen}
+use Rattle.pk_state.specs.Layouts.{Layout}
 use Rattle.pk_state.specs.Facts.{Facts, Stated}
-use Rattle.pk_report.specs.Values.{numbers_of, placed_in, placed}
+use Rattle.pk_report.specs.Values.{numbers_of, related}
 use Rattle.pk_report.specs.Reports.{is_head, state_at}
 use Rattle.pk_show.specs.declared.report.Row.{Row}
 use Rattle.pk_show.specs.declared.report.Row.TheVariants as row
@@ -69,27 +70,21 @@ both_empty : {A : Type 0} (xs ys : List A) → xs ++ ys ≡ [] → (xs ≡ []) �
 both_empty [] ys e = (refl, e)
 both_empty (x ∷ xs) ys e = absurd (cc e)
 
-none_kept : {X A : Type 0} (h : X → Option A) (x : X) (xs : List X) → h x ≡ None → filter_map h xs ≡ [] → filter_map h (x ∷ xs) ≡ []
-none_kept h x xs none e = ap (λ o. cons_option o (filter_map h xs)) none ∙ e
-
-mapped_none : {A B : Type 0} (f : A → B) (o : Option A) → o ≡ None → option_map f o ≡ None
-mapped_none f o e = ap (option_map f) e
-
 none_paired : {A : Type 0} (ps : List A) (bounds : A → A → List BoundOf) → ps ≡ [] → of_pairs ps bounds ≡ []
 none_paired ps bounds e = ap (λ qs. of_pairs qs bounds) e
 
--- a variable of the octagon has a value that is told, so where none is told there are no bounds
-none_placed : (g : GraphOf) (l : Layout) (f : Facts) → IsTellableLayout g l → (xs : List ℕ) → values_at g l f xs ≡ [] → placed l xs ≡ []
-none_placed g l f told [] e = refl
-none_placed g l f told (x ∷ xs) e =
+-- a variable that an octagon is over has a value that is told, so where none is told there are no bounds
+none_related : (g : GraphOf) (l : Layout) (f : Facts) → IsTellableLayout g l → (xs : List ℕ) → values_at g l f xs ≡ [] → related l xs ≡ []
+none_related g l f told [] e = refl
+none_related g l f told (x ∷ xs) e =
     let parts = both_empty (values_of g l f x) (values_at g l f xs) e in
-    by_place (place_in l.chosen x) refl parts.0 (none_placed g l f told xs parts.1)
+    by_test (is_chosen l.packs x) refl parts.0 (none_related g l f told xs parts.1)
   where
-    by_place : (o : Option ℕ) → place_in l.chosen x ≡ o → values_of g l f x ≡ [] → placed l xs ≡ [] → placed l (x ∷ xs) ≡ []
-    by_place None is none rest = none_kept (placed_in l) x xs (mapped_none _ (place_in l.chosen x) is) rest
-    by_place (Some k) is none rest =
+    by_test : (b : Bool) → is_chosen l.packs x ≡ b → values_of g l f x ≡ [] → related l xs ≡ [] → cond b (x ∷ related l xs) (related l xs) ≡ []
+    by_test false is none rest = rest
+    by_test true is none rest =
         let one : values_of g l f x ≡ whole_value g f x ∷ [] =
-        ap (λ (t : Bool). cond t (map (element_value g l f x) (range_with_len 0 (numbers_of g x))) (whole_value g f x ∷ [])) (told.apart x k is) in
+        ap (λ (t : Bool). cond t (map (element_value g l f x) (range_with_len 0 (numbers_of g x))) (whole_value g f x ∷ [])) (told.apart x is) in
         let both = sym one ∙ none in
         absurd (cc both)
 
@@ -100,11 +95,11 @@ facts_follow g h l None told xs rest more =
 facts_follow g h l (Some f) told xs rest more = by_values (values_at g l f xs) refl
   where
     bounds : List BoundOf
-    bounds = bounds_at g f l xs
+    bounds = bounds_at g l f xs
 
     by_values : (vs : List ValueOf) → values_at g l f xs ≡ vs → Follow (Some (row.Heading h)) ((map row.Value vs ++ map row.Bound bounds) ++ rest)
     by_values [] e =
-        let none : bounds ≡ [] = none_paired (placed l xs) _ (none_placed g l f told xs e) in
+        let none : bounds ≡ [] = none_paired (related l xs) _ (none_related g l f told xs e) in
         subst (λ (bs : List BoundOf). Follow (Some (row.Heading h)) (map row.Bound bs ++ rest)) (sym none)
         (more (Some (row.Heading h)) (record { heading = λ h. refl; access = λ a. refl; counts = λ c. refl }))
     by_values (v ∷ vs) e =

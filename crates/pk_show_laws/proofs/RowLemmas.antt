@@ -1,8 +1,7 @@
 -- Each row of the report on a graph is one that is read.
 use Rattle.std.proofs.Common.{subst, ◌≡◌, ◌<◌, ◌+◌, ◌^◌, ◌*◌, ℕ, refl, sym, ap, ◌∙◌, List, [], ◌∷◌, ◌++◌, length, map, reverse, Bool, true, false, cond, Option, Some, None, arith}
 use Rattle.std.specs.Prelude.{ℤ, pos, ◌+ℤ◌, ◌-ℤ◌, All, int_lt, is_some, not, unwrap_or, slice_index_or, count_by, ◌||◌}
-use Rattle.std.specs.Option.{option_map}
-use Rattle.std.specs.List.{filter, flat_map, filter_map, cons_option, range_with_len, zip}
+use Rattle.std.specs.List.{filter, flat_map, range_with_len, zip}
 use Rattle.std.proofs.lemmas.List.{reverse-append}
 use Rattle.std.proofs.lemmas.List.Elements.{All-append, All-filter, All-cons, All-nil, All-map, All-head, All-tail}
 use Rattle.std.proofs.lemmas.List.FromFn.{get_or-range_with_len, length-range_with_len}
@@ -12,12 +11,14 @@ use Rattle.pk_graph.specs.Accesses.{AccessOf}
 use Rattle.pk_graph.specs.declared.graphs.Entry.{Entry}
 use Rattle.pk_graph.specs.Graphs.{VariableOf, GraphOf, point_at, variable_at}
 use Rattle.pk_graph.specs.Visible.{Names, with_name, is_new, is_shown, name_at, not_hidden, no_name, is_of_file, visible_at}
-use Rattle.pk_octmat.specs.Octagon.{entry}
 use Rattle.pk_value.specs.Known.{Known}
-use Rattle.pk_state.specs.Layouts.{Layout, is_spread, slot_of, place_in}
-use Rattle.pk_state.specs.Facts.{Facts, Stated, known_at}
+use Rattle.pk_octagons.specs.Packs.{is_chosen}
+use Rattle.pk_octagons.specs.Values.{known_at}
+use Rattle.pk_state.specs.Layouts.{Layout, is_spread, slot_of}
+use Rattle.pk_state.specs.Facts.{Facts, Stated}
+use Rattle.pk_state.specs.Changes.{bound_in}
 use Rattle.pk_report.specs.Paths.{path_text}
-use Rattle.pk_report.specs.Values.{name_of, numbers_of, placed_in, placed, bounds_of}
+use Rattle.pk_report.specs.Values.{name_of, numbers_of, related, bounds_of}
 use Rattle.pk_report.specs.Reports.{is_head, state_at, is_safe, is_unknown, is_unreachable}
 use Rattle.pk_show.specs.Pieces.{lacks, is_identifier}
 use Rattle.pk_show.specs.declared.report.Row.{Row}
@@ -108,33 +109,12 @@ told_bounds_all x y kx ky minus turned plus negated hx hy h1 h2 h3 h4 =
     (bounds_all Sum x y (kx.range.hi +ℤ ky.range.hi) plus hx hy h3))
     (bounds_all NegatedSum x y ((pos 0 -ℤ kx.range.lo) -ℤ ky.range.lo) negated hx hy h4)
 
-pair_all : (g : GraphOf) (f : Facts) → AreTellableFacts f → (p k q l : ℕ) → HasName g p → HasName g q → All IsBound (pair_bounds g f p k q l)
-pair_all g f h p k q l hp hq =
-    told_bounds_all (name_of g p) (name_of g q) (known_at f.values p) (known_at f.values q)
-    (bounds_of (entry f.octagon) k l).minus (bounds_of (entry f.octagon) k l).turned
-    (bounds_of (entry f.octagon) k l).plus (bounds_of (entry f.octagon) k l).negated hp hq
-    (h.bounds (2 * l) (2 * k)) (h.bounds (2 * k) (2 * l)) (h.bounds (2 * l + 1) (2 * k)) (h.bounds (2 * l) (2 * k + 1))
-
-filtered_all : {X A : Type 0} (P : A → Type 0) (Q : X → Type 0) (h : X → Option A) → ((x : X) (a : A) → Q x → h x ≡ Some a → P a) →
-    (xs : List X) → All Q xs → All P (filter_map h xs)
-filtered_all P Q h each [] all = All-nil P
-filtered_all {X} {A} P Q h each (x ∷ xs) all = by_item (h x) refl (filtered_all P Q h each xs (All-tail Q x xs all))
-  where
-    by_item : (o : Option A) → o ≡ h x → All P (filter_map h xs) → All P (cons_option o (filter_map h xs))
-    by_item None e rest = rest
-    by_item (Some a) e rest = All-cons P a (filter_map h xs) (each x a (All-head Q x xs all) (sym e)) rest
-
-mapped_from : {A B : Type 0} (f : A → B) (o : Option A) (b : B) → option_map f o ≡ Some b → (a : A) × (f a ≡ b)
-mapped_from f None b e = absurd (cc e)
-mapped_from f (Some a) b e = (a, cc e)
-
-placed_named : (g : GraphOf) (l : Layout) (xs : List ℕ) → All (HasName g) xs → All (λ p. HasName g p.variable) (placed l xs)
-placed_named g l xs all =
-    filtered_all (λ p. HasName g p.variable) (HasName g) (placed_in l)
-    (λ x p hx e.
-    let from = mapped_from _ (place_in l.chosen x) p e in
-    subst (HasName g) (ap (λ q. q.variable) from.1) hx)
-    xs all
+pair_all : (g : GraphOf) (l : Layout) (f : Facts) → AreTellableFacts l f → (x y : ℕ) → HasName g x → HasName g y → All IsBound (pair_bounds g l f x y)
+pair_all g l f h x y hx hy =
+    told_bounds_all (name_of g x) (name_of g y) (known_at f.values x) (known_at f.values y)
+    (bounds_of (bound_in l (Some f)) x y).minus (bounds_of (bound_in l (Some f)) x y).turned
+    (bounds_of (bound_in l (Some f)) x y).plus (bounds_of (bound_in l (Some f)) x y).negated hx hy
+    (h.bounds (2 * y) (2 * x)) (h.bounds (2 * x) (2 * y)) (h.bounds (2 * y + 1) (2 * x)) (h.bounds (2 * y) (2 * x + 1))
 
 flat_all : {A B : Type 0} (P : A → Type 0) (Q : B → Type 0) (items : A → List B) → ((q : A) → P q → All Q (items q)) → (ps : List A) → All P ps →
     All Q (flat_map items ps)
@@ -150,9 +130,8 @@ pairs_all P bounds each (p ∷ ps) all =
     (flat_all P IsBound (bounds p) (λ q. each p q (All-head P p ps all)) ps (All-tail P p ps all))
     (pairs_all P bounds each ps (All-tail P p ps all))
 
-bounds_are : (g : GraphOf) (f : Facts) (l : Layout) (xs : List ℕ) → AreTellableFacts f → All (HasName g) xs → All IsBound (bounds_at g f l xs)
-bounds_are g f l xs h all =
-    pairs_all (λ p. HasName g p.variable) _ (λ p q. pair_all g f h p.variable p.place q.variable q.place) (placed l xs) (placed_named g l xs all)
+bounds_are : (g : GraphOf) (l : Layout) (f : Facts) (xs : List ℕ) → AreTellableFacts l f → All (HasName g) xs → All IsBound (bounds_at g l f xs)
+bounds_are g l f xs h all = pairs_all (HasName g) (pair_bounds g l f) (pair_all g l f h) (related l xs) (All-filter (is_chosen l.packs) (HasName g) xs all)
 
 -- ---- a point
 
@@ -166,7 +145,7 @@ whole_subject : (length : Option ℕ) → IsSubject (subject_of length)
 whole_subject None = tt
 whole_subject (Some n) = tt
 
-values_are : (g : GraphOf) (l : Layout) (f : Facts) → IsTellableLayout g l → AreTellableFacts f → (x : ℕ) → HasName g x → All IsValue (values_of g l f x)
+values_are : (g : GraphOf) (l : Layout) (f : Facts) → IsTellableLayout g l → AreTellableFacts l f → (x : ℕ) → HasName g x → All IsValue (values_of g l f x)
 values_are g l f told h x named = by_slots (is_spread l x) refl
   where
     by_slots : (t : Bool) → is_spread l x ≡ t → All IsValue (cond t (map (element_value g l f x) (range_with_len 0 (numbers_of g x))) (whole_value g f x ∷ []))
@@ -178,17 +157,17 @@ values_are g l f told h x named = by_slots (is_spread l x) refl
     by_slots false e =
         All-cons IsValue (whole_value g f x) [] (record { name = named; subject = whole_subject (variable_at g x).kind.length; known = h.values x }) (All-nil IsValue)
 
-values_all : (g : GraphOf) (l : Layout) (f : Facts) → IsTellableLayout g l → AreTellableFacts f → (xs : List ℕ) → All (HasName g) xs → All IsRow (values_rows g l f xs)
+values_all : (g : GraphOf) (l : Layout) (f : Facts) → IsTellableLayout g l → AreTellableFacts l f → (xs : List ℕ) → All (HasName g) xs → All IsRow (values_rows g l f xs)
 values_all g l f told h xs all =
     All-map IsRow row.Value (values_at g l f xs) (flat_all (HasName g) IsValue (values_of g l f) (values_are g l f told h) xs all)
 
-facts_all : (g : GraphOf) (l : Layout) (f : Option Facts) → IsTellableLayout g l → AreTellable f → (xs : List ℕ) → All (HasName g) xs → All IsRow (facts_rows g l f xs)
+facts_all : (g : GraphOf) (l : Layout) (f : Option Facts) → IsTellableLayout g l → AreTellable l f → (xs : List ℕ) → All (HasName g) xs → All IsRow (facts_rows g l f xs)
 facts_all g l None told h xs all = All-cons IsRow row.NoRun [] tt (All-nil IsRow)
 facts_all g l (Some f) told h xs all =
-    All-append IsRow (values_rows g l f xs) (bounds_rows g f l xs) (values_all g l f told h xs all)
-    (All-map IsRow row.Bound (bounds_at g f l xs) (bounds_are g f l xs h all))
+    All-append IsRow (values_rows g l f xs) (bounds_rows g l f xs) (values_all g l f told h xs all)
+    (All-map IsRow row.Bound (bounds_at g l f xs) (bounds_are g l f xs h all))
 
-point_all : (lines : LinesAreRead) (g : GraphOf) (s : Stated) (is_head : Bool) (v : ℕ) → IsTellableGraph g → IsTellableLayout g s.layout → AreTellable s.facts →
+point_all : (lines : LinesAreRead) (g : GraphOf) (s : Stated) (is_head : Bool) (v : ℕ) → IsTellableGraph g → IsTellableLayout g s.layout → AreTellable s.layout s.facts →
     v < length g.points → All IsRow (point_rows g s is_head v)
 point_all lines g s is_head v h told facts l =
     let path = (paths_tell g h (point_at g v).path (h.point_paths v l)).path in
@@ -203,7 +182,7 @@ point_all lines g s is_head v h told facts l =
     (facts_all g s.layout s.facts told facts (visible_at g v) (visible_named g v h))
 
 told_all : (lines : LinesAreRead) (all : Bool) (g : GraphOf) (heads : List ℕ) (states : List Stated) (v : ℕ) → IsTellableGraph g →
-    ((v : ℕ) → IsTellableLayout g (state_at states v).layout) → ((v : ℕ) → AreTellable (state_at states v).facts) → v < length g.points →
+    ((v : ℕ) → IsTellableLayout g (state_at states v).layout) → ((v : ℕ) → AreTellable (state_at states v).layout (state_at states v).facts) → v < length g.points →
     All IsRow (told_rows all g heads states v)
 told_all lines all g heads states v h told facts l = by_test (is_head heads v || all)
   where

@@ -1,19 +1,22 @@
 -- Graphs that are well made, and what is known at their points, can be told.
-use Rattle.std.proofs.Common.{◌≡◌, ◌⊎◌, inl, inr, ℕ, ◌<◌, ◌≤◌, ◌^◌, length, subst, sym, Option, Some, None, arith}
-use Rattle.std.specs.Prelude.{ℤ, pos, negsuc, ◌≤ℤ◌, ◌-ℤ◌, unsigned_abs}
+use Rattle.std.proofs.Common.{◌≡◌, ◌⊎◌, inl, inr, ℕ, ◌<◌, ◌≤◌, ◌^◌, length, subst, sym, Bool, true, false, if◌then◌else◌, List, [], ◌∷◌, Option, Some, None, arith}
+use Rattle.std.specs.Prelude.{ℤ, pos, negsuc, ◌≤ℤ◌, ◌-ℤ◌, int_lt, unsigned_abs, All}
 use Rattle.std.proofs.lemmas.Bool.{cases_lt}
 use Rattle.std.proofs.lemmas.Int.{ints}
 use Rattle.std.proofs.lemmas.List.{get_or_past}
-use Rattle.std.proofs.lemmas.List.Elements.{All-get_or}
+use Rattle.std.proofs.lemmas.List.Elements.{All-get_or, All-head, All-tail}
 use Rattle.pk_ctypes.specs.declared.types.IntType.TheVariants.{Int}
 use Rattle.pk_value.specs.Known.{Known, any_of}
 use Rattle.pk_value.proofs.Sound.{small_in}
-use Rattle.pk_octmat.specs.Bounds.{IsNear}
-use Rattle.pk_octmat.specs.Octagon.{entry}
+use Rattle.pk_octmat.specs.Bounds.{IsNear, lesser}
+use Rattle.pk_octmat.specs.Octagon.{Octagon, entry, IsOctagon}
 use Rattle.pk_graph.specs.Graphs.{GraphOf, no_point, point_at}
 use Rattle.pk_graph.specs.WellMade.{IsPointOf, IsGraph}
-use Rattle.pk_state.specs.Layouts.{Layout, type_at}
-use Rattle.pk_state.specs.Facts.{Facts, known_at, AreFacts, AreFactsIf}
+use Rattle.pk_octagons.specs.Packs.{side_in}
+use Rattle.pk_octagons.specs.Values.{type_at, known_at}
+use Rattle.pk_octagons.specs.Changes.{then_with, bound_by, bound_in as least_bound}
+use Rattle.pk_state.specs.Layouts.{Layout}
+use Rattle.pk_state.specs.Facts.{Facts, AreFacts, AreFactsIf}
 use Rattle.pk_show.specs.Laws.{IsNumber, IsKnown}
 use Rattle.pk_show_laws.specs.ReportRows.{known_of}
 use Rattle.pk_show_laws.specs.Tellable.{HasTellableNames, IsTellableGraph, AreTellable}
@@ -40,8 +43,8 @@ known_is l f h x (inl k) =
     let inside = values.inside x k in
     let class = values.classes x k in
     record {
-      lo = number_is (known_at f.values x).range.lo (small_in (type_at l x) (known_at f.values x).range.lo inside.from);
-      hi = number_is (known_at f.values x).range.hi (small_in (type_at l x) (known_at f.values x).range.hi inside.to);
+      lo = number_is (known_at f.values x).range.lo (small_in (type_at l.types x) (known_at f.values x).range.lo inside.from);
+      hi = number_is (known_at f.values x).range.hi (small_in (type_at l.types x) (known_at f.values x).range.hi inside.to);
       modulus = number_is (known_at f.values x).class.m class.modulus_held;
       rest = number_is (known_at f.values x).class.r class.rest_held;
     }
@@ -49,11 +52,36 @@ known_is l f h x (inr k) =
     subst (λ (known : Known). IsKnown (known_of known)) (sym (get_or_past f.values x (any_of Int) k))
     (record { lo = omega arith; hi = omega arith; modulus = omega arith; rest = omega arith })
 
-pub facts_are_tellable : (l : Layout) (f : Option Facts) → AreFactsIf l f → AreTellable f
+-- ---- bounds of octagons
+
+lesser_near : (n : ℕ) (o p : Option ℤ) → IsNear n o → IsNear n p → IsNear n (lesser o p)
+lesser_near n None p h k = k
+lesser_near n (Some a) None h k = h
+lesser_near n (Some a) (Some b) h k = by (int_lt b a)
+  where
+    by : (t : Bool) → IsNear n (if t then Some b else Some a)
+    by true = k
+    by false = h
+
+one_near : (c : List ℕ) (m : Octagon) (i j : ℕ) → IsOctagon m → IsNear (2 ^ 66) (bound_by c m i j)
+one_near c m i j h = by (side_in c i) (side_in c j)
+  where
+    by : (o p : Option ℕ) → IsNear (2 ^ 66) (then_with o (λ a. then_with p (entry m a)))
+    by None p = tt
+    by (Some a) None = tt
+    by (Some a) (Some b) = h.whole.near a b
+
+bounds_near : (packs : List (List ℕ)) (ms : List Octagon) (i j : ℕ) → All IsOctagon ms → IsNear (2 ^ 66) (least_bound packs ms i j)
+bounds_near [] ms i j h = tt
+bounds_near (c ∷ packs) [] i j h = tt
+bounds_near (c ∷ packs) (m ∷ ms) i j h =
+    lesser_near (2 ^ 66) (bound_by c m i j) (least_bound packs ms i j) (one_near c m i j (All-head IsOctagon m ms h)) (bounds_near packs ms i j (All-tail IsOctagon m ms h))
+
+pub facts_are_tellable : (l : Layout) (f : Option Facts) → AreFactsIf l f → AreTellable l f
 facts_are_tellable l None h = tt
 facts_are_tellable l (Some f) h = record {
   values = λ x. known_is l f h x (cases_lt x (length f.values));
-  bounds = λ i j c e. near_is (entry f.octagon i j) c e (h.octagon.whole.near i j);
+  bounds = λ i j c e. near_is (least_bound l.packs f.octagons i j) c e (bounds_near l.packs f.octagons i j h.octagons.each);
 }
 
 -- ---- graphs

@@ -13,9 +13,10 @@ use Rattle.pk_graph.specs.Accesses.{AccessOf, fault_of}
 use Rattle.pk_graph.specs.Graphs.{PathOf, GraphOf, point_at, variable_at}
 use Rattle.pk_graph.specs.Visible.{visible_at}
 use Rattle.pk_value.specs.Known.{Known}
+use Rattle.pk_octagons.specs.Values.{known_at}
 use Rattle.pk_state.specs.Layouts.{Layout, is_spread, slot_of}
-use Rattle.pk_octmat.specs.Octagon.{entry}
-use Rattle.pk_state.specs.Facts.{Facts, Stated, known_at}
+use Rattle.pk_state.specs.Facts.{Facts, Stated}
+use Rattle.pk_state.specs.Changes.{bound_in}
 use Rattle.pk_report.specs.Paths.{path_text}
 use Rattle.pk_report.specs.Values as written
 use Rattle.pk_report.specs.Reports as reports
@@ -156,21 +157,21 @@ pairs_by text bounds whole none more each (p ∷ ps) =
     ∙ bounds_append (flat_map (bounds p) ps) (of_pairs ps bounds) (flat_map (text p) ps) (whole ps) (flat_bounds (text p) (bounds p) (each p) ps)
     (pairs_by text bounds whole none more each ps)
 
-pairs_lines : (g : GraphOf) (f : Facts) (l : Layout) (xs : List ℕ) →
-    written.of_pairs (written.pair_lines g f) (written.placed l xs) ≡ bounds_text (bounds_at g f l xs)
-pairs_lines g f l xs =
-    pairs_by (written.pair_lines g f) (λ p q. pair_bounds g f p.variable p.place q.variable q.place) (written.of_pairs (written.pair_lines g f)) refl
-    (λ p ps. refl)
-    (λ p q. pair_lines (written.name_of g p.variable) (written.name_of g q.variable) (known_at f.values p.variable) (known_at f.values q.variable)
-    (written.bounds_of (entry f.octagon) p.place q.place))
-    (written.placed l xs)
+pairs_lines : (g : GraphOf) (l : Layout) (f : Facts) (xs : List ℕ) →
+    written.of_pairs (written.pair_lines g l f) (written.related l xs) ≡ bounds_text (bounds_at g l f xs)
+pairs_lines g l f xs =
+    pairs_by (written.pair_lines g l f) (pair_bounds g l f) (written.of_pairs (written.pair_lines g l f)) refl
+    (λ x ys. refl)
+    (λ x y. pair_lines (written.name_of g x) (written.name_of g y) (known_at f.values x) (known_at f.values y)
+    (written.bounds_of (bound_in l (Some f)) x y))
+    (written.related l xs)
 
 -- ---- a point
 
 facts_lines : (g : GraphOf) (l : Layout) (f : Option Facts) (xs : List ℕ) → written.facts_lines g l f xs ≡ rows_text (facts_rows g l f xs)
 facts_lines g l None xs = refl
 facts_lines g l (Some f) xs =
-    both_parts _ _ (values_rows g l f xs) (bounds_rows g f l xs) (values_lines g l f xs) (pairs_lines g f l xs ∙ bounds_lines (bounds_at g f l xs))
+    both_parts _ _ (values_rows g l f xs) (bounds_rows g l f xs) (values_lines g l f xs) (pairs_lines g l f xs ∙ bounds_lines (bounds_at g l f xs))
 
 point_lines : (g : GraphOf) (s : Stated) (is_head : Bool) (v : ℕ) → reports.point_lines g s is_head v ≡ rows_text (point_rows g s is_head v)
 point_lines g s is_head v =

@@ -26,7 +26,7 @@ GraphsAreTellable = (g : GraphOf) → IsGraph g → HasTellableNames g → IsTel
 
 -- what is known of variables that have layout l can be told
 abbrev pub FactsAreTellable : Type 0
-FactsAreTellable = (l : Layout) (f : Option Facts) → AreFactsIf l f → AreTellable f
+FactsAreTellable = (l : Layout) (f : Option Facts) → AreFactsIf l f → AreTellable l f
 
 -- the lines of some report begin with these
 abbrev pub BeginReport : List (List ℕ) → Type 0

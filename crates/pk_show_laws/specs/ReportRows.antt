@@ -7,11 +7,12 @@ use Rattle.pk_graph.specs.Accesses.{AccessOf, fault_of}
 use Rattle.pk_graph.specs.Graphs.{PathOf, GraphOf, point_at, variable_at}
 use Rattle.pk_graph.specs.Visible.{visible_at}
 use Rattle.pk_value.specs.Known.{Known}
-use Rattle.pk_octmat.specs.Octagon.{entry}
+use Rattle.pk_octagons.specs.Values.{known_at}
 use Rattle.pk_state.specs.Layouts.{Layout, is_spread, slot_of}
-use Rattle.pk_state.specs.Facts.{Facts, Stated, known_at}
+use Rattle.pk_state.specs.Facts.{Facts, Stated}
+use Rattle.pk_state.specs.Changes.{bound_in}
 use Rattle.pk_report.specs.Paths.{path_text}
-use Rattle.pk_report.specs.Values.{name_of, numbers_of, placed, bounds_of}
+use Rattle.pk_report.specs.Values.{name_of, numbers_of, related, bounds_of}
 use Rattle.pk_report.specs.Reports.{is_head, state_at, is_safe, is_unknown, is_unreachable}
 use Rattle.pk_show.specs.declared.report.Row.{Row}
 use Rattle.pk_show.specs.declared.report.Row.TheVariants as row
@@ -69,20 +70,20 @@ bounds_told x y kx ky minus turned plus negated =
     ++ bounds_if Sum x y (kx.range.hi +ℤ ky.range.hi) plus
     ++ bounds_if NegatedSum x y ((pos 0 -ℤ kx.range.lo) -ℤ ky.range.lo) negated
 
--- of the variables p and q, which are those of places k and l in the octagon
-abbrev pub pair_bounds : GraphOf → Facts → (p k q l : ℕ) → List BoundOf
-pair_bounds g f p k q l =
-    bounds_told (name_of g p) (name_of g q) (known_at f.values p) (known_at f.values q)
-    (bounds_of (entry f.octagon) k l).minus (bounds_of (entry f.octagon) k l).turned
-    (bounds_of (entry f.octagon) k l).plus (bounds_of (entry f.octagon) k l).negated
+-- of the variables x and y
+abbrev pub pair_bounds : GraphOf → Layout → Facts → (x y : ℕ) → List BoundOf
+pair_bounds g l f x y =
+    bounds_told (name_of g x) (name_of g y) (known_at f.values x) (known_at f.values y)
+    (bounds_of (bound_in l (Some f)) x y).minus (bounds_of (bound_in l (Some f)) x y).turned
+    (bounds_of (bound_in l (Some f)) x y).plus (bounds_of (bound_in l (Some f)) x y).negated
 
 -- each pair, the one before the other in the list
 abbrev pub of_pairs : {A : Type 0} → List A → (A → A → List BoundOf) → List BoundOf
 of_pairs [] bounds = []
 of_pairs (p ∷ ps) bounds = flat_map (bounds p) ps ++ of_pairs ps bounds
 
-abbrev pub bounds_at : GraphOf → Facts → Layout → List ℕ → List BoundOf
-bounds_at g f l xs = of_pairs (placed l xs) (λ p q. pair_bounds g f p.variable p.place q.variable q.place)
+abbrev pub bounds_at : GraphOf → Layout → Facts → List ℕ → List BoundOf
+bounds_at g l f xs = of_pairs (related l xs) (pair_bounds g l f)
 
 abbrev pub values_at : GraphOf → Layout → Facts → List ℕ → List ValueOf
 values_at g l f = flat_map (values_of g l f)
@@ -90,12 +91,12 @@ values_at g l f = flat_map (values_of g l f)
 abbrev pub values_rows : GraphOf → Layout → Facts → List ℕ → List Row
 values_rows g l f xs = map row.Value (values_at g l f xs)
 
-abbrev pub bounds_rows : GraphOf → Facts → Layout → List ℕ → List Row
-bounds_rows g f l xs = map row.Bound (bounds_at g f l xs)
+abbrev pub bounds_rows : GraphOf → Layout → Facts → List ℕ → List Row
+bounds_rows g l f xs = map row.Bound (bounds_at g l f xs)
 
 abbrev pub facts_rows : GraphOf → Layout → Option Facts → List ℕ → List Row
 facts_rows g l None xs = row.NoRun ∷ []
-facts_rows g l (Some f) xs = values_rows g l f xs ++ bounds_rows g f l xs
+facts_rows g l (Some f) xs = values_rows g l f xs ++ bounds_rows g l f xs
 
 abbrev pub point_rows : GraphOf → Stated → (is_head : Bool) → ℕ → List Row
 point_rows g s is_head v = row.Heading (heading_of g is_head v) ∷ facts_rows g s.layout s.facts (visible_at g v)

@@ -5,9 +5,11 @@ use Rattle.pk_graph.specs.declared.trees.Site.{Site}
 use Rattle.pk_graph.specs.declared.verdicts.Verdict.{Verdict}
 use Rattle.pk_graph.specs.Accesses.{AccessOf}
 use Rattle.pk_graph.specs.Graphs.{PathOf, GraphOf, point_at, variable_at}
-use Rattle.pk_octmat.specs.Octagon.{entry}
-use Rattle.pk_state.specs.Facts.{Facts, Stated, known_at}
-use Rattle.pk_state.specs.Layouts.{Layout, is_spread, place_in}
+use Rattle.pk_octagons.specs.Packs.{is_chosen}
+use Rattle.pk_octagons.specs.Values.{known_at}
+use Rattle.pk_state.specs.Layouts.{Layout, is_spread}
+use Rattle.pk_state.specs.Facts.{Facts, Stated}
+use Rattle.pk_state.specs.Changes.{bound_in}
 use Rattle.pk_report.specs.Paths.{path_at}
 use Rattle.pk_report.specs.Values.{numbers_of}
 use Rattle.pk_report.specs.Reports.{state_at}
@@ -43,18 +45,18 @@ pub record HasTellableNames (g : GraphOf) : Type 0 where
   pub names : (x : ℕ) → IsName (variable_at g x).name
   pub point_places : (v : ℕ) → v < length g.points → IsPlace (point_at g v).at
 
-pub record AreTellableFacts (f : Facts) : Type 0 where
+pub record AreTellableFacts (l : Layout) (f : Facts) : Type 0 where
   pub values : (x : ℕ) → IsKnown (known_of (known_at f.values x))
-  pub bounds : (i j : ℕ) (c : ℤ) → entry f.octagon i j ≡ Some c → IsNumber c
+  pub bounds : (i j : ℕ) (c : ℤ) → bound_in l (Some f) i j ≡ Some c → IsNumber c
 
-abbrev pub AreTellable : Option Facts → Type 0
-AreTellable None = Unit {0}
-AreTellable (Some f) = AreTellableFacts f
+abbrev pub AreTellable : Layout → Option Facts → Type 0
+AreTellable l None = Unit {0}
+AreTellable l (Some f) = AreTellableFacts l f
 
--- elements that are told have numbers in range, and the octagon is over no variable of which elements are told
+-- elements that are told have numbers in range, and no octagon is over a variable of which elements are told
 pub record IsTellableLayout (g : GraphOf) (l : Layout) : Type 0 where
   pub few : (x : ℕ) → is_spread l x ≡ true → numbers_of g x < 2 ^ 64
-  pub apart : (x k : ℕ) → place_in l.chosen x ≡ Some k → is_spread l x ≡ false
+  pub apart : (x : ℕ) → is_chosen l.packs x ≡ true → is_spread l x ≡ false
 
 pub record IsTellableAccess (g : GraphOf) (a : AccessOf × Verdict) : Type 0 where
   pub path : a.0.site.path < length g.paths
@@ -66,6 +68,6 @@ pub record IsTellable (g : GraphOf) (elements : ℕ) (states : List Stated) (acc
   pub graph : IsTellableGraph g
   pub elements_few : elements < 2 ^ 64
   pub layouts : (v : ℕ) → IsTellableLayout g (state_at states v).layout
-  pub facts : (v : ℕ) → AreTellable (state_at states v).facts
+  pub facts : (v : ℕ) → AreTellable (state_at states v).layout (state_at states v).facts
   pub each : All (IsTellableAccess g) (zip accesses verdicts)
   pub verdicts_few : length verdicts < 2 ^ 64

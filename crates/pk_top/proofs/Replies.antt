@@ -83,7 +83,8 @@ ungraphed_ends text entry s (e, none, is) = ap is_end is ∙ cause_ends e
 
 unanalysed_ends : (text entry : List ℕ) (o : Options) (most : ℕ) (s : Status) → IsUnanalysed text entry o most s → is_end s ≡ true
 unanalysed_ends text entry o most s (inl x) = ungraphed_ends text entry s x
-unanalysed_ends text entry o most s (inr x) = ap is_end x.1
+unanalysed_ends text entry o most s (inr (inl x)) = ap is_end x.1
+unanalysed_ends text entry o most s (inr (inr x)) = ap is_end x.1
 
 uncertified_ends : (text entry : List ℕ) (o : Options) (most : ℕ) (s : Status) → IsUncertified text entry o most s → is_end s ≡ true
 uncertified_ends text entry o most s (inl x) = unanalysed_ends text entry o most s x

@@ -1,5 +1,5 @@
 -- What a visit knows keeps to what is told of its point.
-use Rattle.std.specs.Prelude.{◌≡◌, ℕ, ◌<◌, suc, ◌+◌, ◌*◌, ◌/◌, ◌%◌, ◌==◌, Bool, true, false, if◌then◌else◌, ℤ, pos, neg_ℤ, ◌+ℤ◌, ◌-ℤ◌, List, [], ◌∷◌, length, map, All, slice_get, Option, Some, None, option_map}
+use Rattle.std.specs.Prelude.{◌≡◌, ℕ, ◌<◌, ◌+◌, ◌*◌, ◌/◌, ◌%◌, ◌==◌, true, false, ℤ, pos, neg_ℤ, ◌+ℤ◌, ◌-ℤ◌, List, [], ◌∷◌, length, map, All, slice_get, Option, Some, None, option_map}
 use Rattle.std.specs.List.{AllZip}
 use Rattle.std.proofs.Common.{◌∙◌, ap, refl, sym, subst, arith}
 use Rattle.std.proofs.lemmas.Bool.Decides.{nat_tests}
@@ -9,16 +9,17 @@ use Rattle.std.proofs.lemmas.List.Elements.{All-head, All-tail}
 use Rattle.std.proofs.lemmas.Option.{slice_get-map}
 use Rattle.pk_graph.specs.Graphs.{VariableOf, GraphOf, names_at, kinds_of}
 use Rattle.pk_graph.specs.Steps.{Numbers, number_at}
-use Rattle.pk_graph.specs.Stores.{Stored, numbers_of, IsStore}
+use Rattle.pk_graph.specs.Stores.{Stored, numbers_of, number_of, IsStore}
 use Rattle.pk_octmat.specs.Bounds.{AtMost}
-use Rattle.pk_octmat.specs.Octagon.{entry, side, Meets}
-use Rattle.pk_state.specs.Layouts.{Layout, place_in}
+use Rattle.pk_octmat.specs.Octagon.{side}
+use Rattle.pk_octagons.proofs.Sound.{octagons_sound}
+use Rattle.pk_state.specs.Layouts.{Layout}
 use Rattle.pk_state.specs.Facts.{Facts}
-use Rattle.pk_state.specs.Members.{number_if, selected}
+use Rattle.pk_state.specs.Changes.{bound_in}
 use Rattle.pk_sound.specs.Held.{Agrees, AgreesWith}
 use Rattle.pk_meaning.specs.Runs.{Known}
 use Rattle.pk_visits.specs.GraphVisits.{known_of, visit_at}
-use Rattle.pk_report_laws.specs.Programs.Told.{IsKnownAs, IsPlacedAt, AreBounded, IsToldAt, IsToldIf}
+use Rattle.pk_report_laws.specs.Programs.Told.{IsKnownAs, HoldsAt, AreBounded, IsToldAt, IsToldIf}
 
 -- ---- ranges and classes
 
@@ -34,7 +35,7 @@ all_known g l f s [] st there h = tt
 all_known g l f s (x ∷ xs) st there h =
     (known_as g l f s x st (All-head (λ (y : ℕ). y < length g.variables) x xs there) h, all_known g l f s xs st (All-tail (λ (y : ℕ). y < length g.variables) x xs there) h)
 
--- ---- the octagon
+-- ---- the octagons
 
 first_side : (x : ℕ → ℤ) (k : ℕ) → side x (2 * k) ≡ x k
 first_side x k =
@@ -55,10 +56,10 @@ negated_is : (x y : ℤ) → (neg_ℤ x -ℤ y) ≡ ((pos 0 -ℤ x) -ℤ y)
 negated_is x y = omega (arith, ints)
 
 -- the bounds of numbers k and m
-bounded : (e : ℕ → ℕ → Option ℤ) (v : ℕ → ℤ) (k m : ℕ) → Meets e v → AreBounded e k m (v k) (v m)
+bounded : (e : ℕ → ℕ → Option ℤ) (v : ℕ → ℤ) (k m : ℕ) → ((i j : ℕ) → AtMost (Some (side v j -ℤ side v i)) (e i j)) → AreBounded e k m (v k) (v m)
 bounded e v k m h =
     let at : (i j : ℕ) (a b c : ℤ) → side v j ≡ a → side v i ≡ b → (a -ℤ b) ≡ c → AtMost (Some c) (e i j) = λ i j a b c first second is.
-    subst (λ z. AtMost (Some z) (e i j)) (ap (λ z. z -ℤ side v i) first ∙ ap (λ z. a -ℤ z) second ∙ is) (h.each i j) in
+    subst (λ z. AtMost (Some z) (e i j)) (ap (λ z. z -ℤ side v i) first ∙ ap (λ z. a -ℤ z) second ∙ is) (h i j) in
     record {
       minus = at (2 * m) (2 * k) (v k) (v m) (v k -ℤ v m) (first_side v k) (first_side v m) refl;
       turned = at (2 * k) (2 * m) (v m) (v k) (v m -ℤ v k) (first_side v m) (first_side v k) refl;
@@ -66,40 +67,23 @@ bounded e v k m h =
       negated = at (2 * m) (2 * k + 1) (neg_ℤ (v k)) (v m) ((pos 0 -ℤ v k) -ℤ v m) (second_side v k) (first_side v m) (negated_is (v k) (v m));
     }
 
--- a variable stands at its place
-placed_there : (ys : List ℕ) (x k : ℕ) → place_in ys x ≡ Some k → slice_get ys k ≡ Some x
-placed_there [] x k h = cc
-placed_there (y ∷ ys) x k h = by (placed_there ys x) (y == x) refl h
-  where
-    later : ((j : ℕ) → place_in ys x ≡ Some j → slice_get ys j ≡ Some x) → (o : Option ℕ) → place_in ys x ≡ o → option_map suc o ≡ Some k → slice_get (y ∷ ys) k ≡ Some x
-    later more None e is = cc
-    later more (Some j) e is =
-        let next : suc j ≡ k = cc in
-        subst (λ i. slice_get (y ∷ ys) i ≡ Some x) next (more j e)
-
-    by : ((j : ℕ) → place_in ys x ≡ Some j → slice_get ys j ≡ Some x) → (b : Bool) → (y == x) ≡ b → (if b then Some 0 else option_map suc (place_in ys x)) ≡ Some k → slice_get (y ∷ ys) k ≡ Some x
-    by more true e is =
-        let first : 0 ≡ k = cc in
-        let same : y ≡ x = grind (arith, nat_tests) in
-        subst (λ i. slice_get (y ∷ ys) i ≡ Some x) first (ap (λ z. Some z) same)
-    by more false e is = later more (place_in ys x) refl is
-
--- the number of an octagon's variable is the one that a visit knows
-number_is : (g : GraphOf) (l : Layout) (p : ℕ) (s : Stored) (i k : ℕ) (z : ℤ) → IsPlacedAt g l p (visit_at g p s) i k z → selected l.chosen s k ≡ z
-number_is g l p s i k z h =
-    let numbers : Some (numbers_of s h.variable) ≡ Some (z ∷ []) =
+-- the number of a variable is the one that a visit knows
+number_is : (g : GraphOf) (p : ℕ) (s : Stored) (i x : ℕ) (z : ℤ) → HoldsAt g p (visit_at g p s) i x z → number_of s x ≡ z
+number_is g p s i x z h =
+    let numbers : Some (numbers_of s x) ≡ Some (z ∷ []) =
     sym (ap (λ (o : Option Known). option_map (λ (n : Known). n.numbers) o) (slice_get-map (known_of g s) (names_at g p) i ∙ ap (option_map (known_of g s)) h.in_scope)) ∙ h.holds in
-    let one : numbers_of s h.variable ≡ z ∷ [] = cc in
-    ap (number_if s) (placed_there l.chosen h.variable k h.place) ∙ ap (λ (zs : Numbers). number_at zs 0) one
+    let one : numbers_of s x ≡ z ∷ [] = cc in
+    ap (λ (zs : Numbers). number_at zs 0) one
 
 told_at : (g : GraphOf) (l : Layout) (f : Facts) (p : ℕ) (s : Stored) → IsStore (kinds_of g) s → All (λ x. x < length g.variables) (names_at g p) → AgreesWith l f s → IsToldAt g l f p (visit_at g p s)
 told_at g l f p s st there h = record {
   path = refl;
   place = refl;
   values = all_known g l f s (names_at g p) st there h;
-  pairs = λ i j k m x y first second.
-      subst (λ b. AreBounded (entry f.octagon) k m x b) (number_is g l p s j m y second)
-      (subst (λ a. AreBounded (entry f.octagon) k m a (selected l.chosen s m)) (number_is g l p s i k x first) (bounded (entry f.octagon) (selected l.chosen s) k m h.octagon));
+  pairs = λ i j x y a b first second.
+      subst (λ c. AreBounded (bound_in l (Some f)) x y a c) (number_is g p s j y b second)
+      (subst (λ c. AreBounded (bound_in l (Some f)) x y c (number_of s y)) (number_is g p s i x a first)
+      (bounded (bound_in l (Some f)) (number_of s) x y (λ k m. octagons_sound.told l.packs f.octagons (number_of s) k m h.octagons)));
 }
 
 pub store_told : (g : GraphOf) (l : Layout) (f : Option Facts) (p : ℕ) (s : Stored) → IsStore (kinds_of g) s → All (λ x. x < length g.variables) (names_at g p) → Agrees l f s → IsToldIf g l f p (visit_at g p s)

@@ -8,9 +8,10 @@ use Rattle.pk_graph.specs.Kinds.{count_at}
 use Rattle.pk_graph.specs.Steps.{number_at}
 use Rattle.pk_value.specs.Known.{IsOf}
 use Rattle.pk_octmat.specs.Bounds.{AtMost}
-use Rattle.pk_octmat.specs.Octagon.{entry}
-use Rattle.pk_state.specs.Layouts.{Layout, place_in, slot_of}
-use Rattle.pk_state.specs.Facts.{Facts, Stated, known_at}
+use Rattle.pk_octagons.specs.Values.{known_at}
+use Rattle.pk_state.specs.Layouts.{Layout, slot_of}
+use Rattle.pk_state.specs.Facts.{Facts, Stated}
+use Rattle.pk_state.specs.Changes.{bound_in}
 use Rattle.pk_report.specs.Values.{name_of, bounds_of}
 use Rattle.pk_report.specs.Reports.{state_at}
 use Rattle.pk_meaning.specs.Runs.{Known, Visit}
@@ -40,27 +41,25 @@ pub record IsKnownAs (g : GraphOf) (l : Layout) (f : Facts) (variable : ℕ) (k 
   pub numbers : (i : ℕ) → i < length k.numbers →
       IsOf (known_at f.values (slot_of l variable i)) (number_at k.numbers i)
 
--- name i of a visit of the point is that of variable k of the octagon, and holds z
-pub record IsPlacedAt (g : GraphOf) (l : Layout) (point : ℕ) (v : Visit) (i k : ℕ) (z : ℤ) : Type 0 where
-  pub variable : ℕ
-  pub in_scope : slice_get (names_at g point) i ≡ Some variable
-  pub place : place_in l.chosen variable ≡ Some k
+-- name i of a visit of the point is that of variable x, which holds z alone
+pub record HoldsAt (g : GraphOf) (point : ℕ) (v : Visit) (i x : ℕ) (z : ℤ) : Type 0 where
+  pub in_scope : slice_get (names_at g point) i ≡ Some x
   pub holds : option_map (λ (n : Known). n.numbers) (slice_get v.known i) ≡ Some (z ∷ [])
 
--- The numbers of variables k and m keep to the bounds of the four forms of them, `x - y <= c`, `y - x <= c`, `x + y <= c` and `-x - y <= c`.
-pub record AreBounded (bound : ℕ → ℕ → Option ℤ) (k m : ℕ) (x y : ℤ) : Type 0 where
-  pub minus : AtMost (Some (x -ℤ y)) (bounds_of bound k m).minus
-  pub turned : AtMost (Some (y -ℤ x)) (bounds_of bound k m).turned
-  pub plus : AtMost (Some (x +ℤ y)) (bounds_of bound k m).plus
-  pub negated : AtMost (Some ((pos 0 -ℤ x) -ℤ y)) (bounds_of bound k m).negated
+-- The numbers a and b of variables x and y keep to the bounds of the four forms of them, `x - y <= c`, `y - x <= c`, `x + y <= c` and `-x - y <= c`.
+pub record AreBounded (bound : ℕ → ℕ → Option ℤ) (x y : ℕ) (a b : ℤ) : Type 0 where
+  pub minus : AtMost (Some (a -ℤ b)) (bounds_of bound x y).minus
+  pub turned : AtMost (Some (b -ℤ a)) (bounds_of bound x y).turned
+  pub plus : AtMost (Some (a +ℤ b)) (bounds_of bound x y).plus
+  pub negated : AtMost (Some ((pos 0 -ℤ a) -ℤ b)) (bounds_of bound x y).negated
 
 -- A visit of a point: its path and its place are the point's, its names, newest first, are those of the variables in scope there, and their numbers keep to the lines of the variables and of their pairs.
 pub record IsToldAt (g : GraphOf) (l : Layout) (f : Facts) (point : ℕ) (v : Visit) : Type 0 where
   pub path : (point_at g point).path ≡ v.path
   pub place : (point_at g point).at ≡ v.at
   pub values : AllZip (IsKnownAs g l f) (names_at g point) v.known
-  pub pairs : (i j k m : ℕ) (x y : ℤ) → IsPlacedAt g l point v i k x → IsPlacedAt g l point v j m y →
-      AreBounded (entry f.octagon) k m x y
+  pub pairs : (i j x y : ℕ) (a b : ℤ) → HoldsAt g point v i x a → HoldsAt g point v j y b →
+      AreBounded (bound_in l (Some f)) x y a b
 
 -- no visit is of a point that is told as unreachable
 abbrev pub IsToldIf : GraphOf → Layout → Option Facts → ℕ → Visit → Type 0
